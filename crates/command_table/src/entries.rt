@@ -1,4 +1,3 @@
-//! The commands with numbers of their own.
 ghost use Rattle.std.specs.Prelude.{◌≡◌, map};
 ghost use Rattle.std.specs.Option.{option_map};
 ghost use Rattle.command_table.specs.Table.{own_rows, row_in};
@@ -75,21 +74,18 @@ const ENTRIES: [Entry; 11] = [
     },
 ];
 
-/// The entry of this name among these commands, compared without ASCII case, or `None`.
 pub(crate) fn own_entry(name: &[u8]) -> Option<Entry>
     ensures { option_map row_of result ≡ row_in own_rows name.now }
 {
     find_entry(entries(), name)
 }
 
-// All of these entries.
 fn entries() -> &'static [Entry]
     ensures { map row_of result.now ≡ own_rows }
 {
     &ENTRIES
 }
 
-// The first of the entries with this name.
 fn find_entry(entries: &[Entry], name: &[u8]) -> Option<Entry>
     ensures { option_map row_of result ≡ row_in (map row_of entries.now) name.now }
 {

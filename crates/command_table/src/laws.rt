@@ -1,4 +1,3 @@
-//! Laws of the table. Each is the contract of a function that does nothing; its users call it.
 ghost use Rattle.command_table.specs.Laws.{NamesAreDistinct, NamesAreLowerCase, EachRowIsFound, FoundStandsInTable};
 
 /// No two commands of the table have the same name.
@@ -11,7 +10,7 @@ pub fn names_are_lower_case()
     ensures { NamesAreLowerCase }
 {}
 
-/// Each command of the table is found by its name in any case.
+/// Each command is found by its name in any case.
 pub fn each_row_is_found()
     ensures { EachRowIsFound }
 {}

@@ -1,7 +1,7 @@
 //! The commands that the proxy knows, by name.
 //!
-//! Names and meanings are those of Redis. Which commands the table has, the number of their words, and the place of
-//! their key are this project's own profile. It stands on no other crate. Begin with `look`.
+//! Names and meanings are those of Redis; the choice is this project's own. It stands on no other crate. Begin with
+//! `look`.
 #![tactic(auto)]
 
 ghost use Rattle.std.specs.Prelude.{◌≡◌, ◌≢◌, IfSome, IfNone, Contains, All};
@@ -25,7 +25,7 @@ use names::one_key_entry;
 pub enum Kind {
     /// PING: answered by the proxy. It takes one word.
     Ping,
-    /// ECHO: answered by the proxy with its second word. It takes two words.
+    /// ECHO: answered by the proxy with its second word. It takes two.
     Echo,
     /// QUIT: answered by the proxy, which then takes no further command of the connection.
     Quit,
@@ -35,7 +35,7 @@ pub enum Kind {
     SplitGet,
     /// MSET: split into a SET for each key and its value. The number of its words is odd.
     SplitSet,
-    /// A command that counts keys (DEL, EXISTS, TOUCH, UNLINK): split into one of its own for each key.
+    /// DEL, EXISTS, TOUCH or UNLINK, which count keys: split into one for each key.
     SplitSum,
 }
 
@@ -48,13 +48,11 @@ pub struct Entry {
     pub name: &'static str,
     /// The least number of words, with the name.
     pub least: usize,
-    /// The index of the word that is the key; the name is word 0. 0 for a command without a key.
+    /// The index of the word that is the key; 0 for a command without a key.
     pub key_at: usize,
 }
 
-/// The entry of the command of this name, compared without ASCII case, or `None` if the table has none.
-///
-/// It takes no memory.
+/// The entry of this name, compared without ASCII case, or `None`.
 pub fn look(name: &[u8]) -> Option<Entry>
     ensures found { IfSome result (λ e. Contains rows (row_of e)
         × (str_to_ascii_lowercase name.now ≡ e.name.now)) }

@@ -1,4 +1,3 @@
-//! The names of commands that one host answers as a whole, by length: the key is the word after the name.
 ghost use Rattle.std.specs.Prelude.{◌≡◌, ◌==◌, map, filter, find, length};
 ghost use Rattle.std.specs.Option.{option_map};
 ghost use Rattle.command_table.specs.Names.{one_key_names};
@@ -56,9 +55,6 @@ const OF_15: [&str; 1] = ["zremrangebyrank"];
 
 const OF_16: [&str; 2] = ["zremrangebyscore", "zrevrangebyscore"];
 
-/// The entry of this name among these commands, compared without ASCII case, or `None`.
-///
-/// It compares only with names of the same length.
 pub(crate) fn one_key_entry(name: &[u8]) -> Option<Entry>
     ensures { option_map row_of result ≡ row_in (map one_key_row one_key_names) name.now }
 {
@@ -73,7 +69,6 @@ pub(crate) fn one_key_entry(name: &[u8]) -> Option<Entry>
     }
 }
 
-// The names of this length, in the table's order.
 #[tactic(auto, unfolding(crate::specs::Names::one_key_names))]
 fn names_of_length(len: usize) -> &'static [&'static str]
     ensures { map (λ n. n.now) result.now ≡ filter (λ n. length n == len) one_key_names }
@@ -97,7 +92,6 @@ fn names_of_length(len: usize) -> &'static [&'static str]
     }
 }
 
-// The first of these names that equals this one.
 fn find_name(names: &[&'static str], name: &[u8]) -> Option<&'static str>
     ensures { option_map (λ n. n.now) result ≡ find (is_name name.now) (map
         (λ n. n.now) names.now) }

@@ -1,5 +1,3 @@
-//! The effects of a result and of a sweep.
-
 /// The effect of a result on its host.
 #[derive(Clone, Copy, Debug, PartialEq, Eq)]
 pub enum Trip {
@@ -11,7 +9,7 @@ pub enum Trip {
     Kept,
 }
 
-/// The numbers of hosts that a sweep returned, that tripped and were ejected, and that tripped and stayed.
+/// The numbers of hosts that came back, were ejected, and tripped and stayed.
 #[derive(Clone, Copy, Debug, PartialEq, Eq)]
 pub struct Swept {
     pub returned: u32,

@@ -1,4 +1,3 @@
-//! Updates a host's counters.
 ghost use Rattle.std.specs.Prelude.{◌≡◌, ◌+◌, ◌-◌, ◌*◌, ◌/◌, ◌<◌, ◌≤◌, ◌==◌, ◌&&◌, length, map, replicate, slice_index_or, nat_lt, true};
 ghost use Rattle.ejector.specs.Settings.{IsInRange};
 ghost use Rattle.ejector.specs.CountedState.{max_multiplier};
@@ -11,7 +10,6 @@ use crate::answer::Trip;
 use crate::host::HostState;
 use crate::settings::Rules;
 
-/// Adds a result in the interval, as long as the count can rise.
 fn counted(host: HostState, ok: bool) -> HostState
     requires { host.good_results ≤ host.results }
     ensures { result ≡ host_with_result ok host }
@@ -26,7 +24,6 @@ fn counted(host: HostState, ok: bool) -> HostState
     }
 }
 
-/// The greatest multiplier.
 fn max_multiplier(rules: &Rules) -> u32
     requires { IsInRange rules.now }
     ensures { result ≡ max_multiplier rules.now }
@@ -35,14 +32,12 @@ fn max_multiplier(rules: &Rules) -> u32
     (settings.max_ms + settings.base_ms - 1) / settings.base_ms
 }
 
-/// The host without a streak.
 fn without_streak(host: HostState) -> HostState
     ensures { result ≡ kept_host host }
 {
     HostState { streak: 0, ..host }
 }
 
-/// The host ejected now, for longer than the last time.
 fn ejected(rules: &Rules, now: u64, host: HostState) -> HostState
     requires { IsInRange rules.now }
     ensures { result ≡ ejected_host rules.now now host }
@@ -57,7 +52,7 @@ fn ejected(rules: &Rules, now: u64, host: HostState) -> HostState
     }
 }
 
-/// The host after a trip; `may` says whether one more host may be out.
+/// `may`: one more host may be out.
 pub(crate) fn tripped(rules: &Rules, now: u64, may: bool, host: HostState) -> HostState
     requires { IsInRange rules.now }
     ensures { result ≡ tripped_host rules.now now may host }
@@ -69,7 +64,6 @@ pub(crate) fn tripped(rules: &Rules, now: u64, may: bool, host: HostState) -> Ho
     }
 }
 
-/// Whether one more host may be ejected while `out` hosts are out.
 pub(crate) fn may_eject(rules: &Rules, out: usize) -> bool
     requires range { IsInRange rules.now }
     requires few { out ≤ 128 }
@@ -78,7 +72,6 @@ pub(crate) fn may_eject(rules: &Rules, out: usize) -> bool
     out == 0 || 100 * out < rules.settings.max_percent as usize * rules.hosts
 }
 
-/// Whether all hosts are used while `out` of them are out.
 pub(crate) fn is_panic(rules: &Rules, out: usize) -> bool
     requires range { IsInRange rules.now }
     requires within { out ≤ rules.now.hosts }
@@ -88,7 +81,7 @@ pub(crate) fn is_panic(rules: &Rules, out: usize) -> bool
     100 * (rules.hosts - out) < rules.settings.panic_percent as usize * rules.hosts
 }
 
-/// Writes whether each host isn't out, in its place, and returns the number of hosts that are out.
+/// Returns the number of hosts that are out.
 pub(crate) fn set_in(hosts: &[HostState], places: &mut [bool]) -> usize
     requires { length places.old ≡ length hosts.now }
     ensures places { places.new ≡ map is_in hosts.now }
@@ -105,7 +98,6 @@ pub(crate) fn set_in(hosts: &[HostState], places: &mut [bool]) -> usize
     out
 }
 
-/// Writes true in each place.
 pub(crate) fn set_all(places: &mut [bool])
     ensures { places.new ≡ replicate (length places.old) true }
 {
@@ -114,7 +106,6 @@ pub(crate) fn set_all(places: &mut [bool])
     }
 }
 
-/// The number of hosts that are out.
 pub(crate) fn out_count(hosts: &[HostState]) -> usize
     ensures count { result ≡ outs hosts.now }
     ensures within { result ≤ length hosts.now }
@@ -122,7 +113,6 @@ pub(crate) fn out_count(hosts: &[HostState]) -> usize
     hosts.iter().filter(|host| host.is_out).count()
 }
 
-/// Whether one more bad result makes the host trip.
 fn trips(rules: &Rules, host: HostState) -> bool
     requires range { IsInRange rules.now }
     requires sound { IsSound rules.now host }
@@ -132,7 +122,6 @@ fn trips(rules: &Rules, host: HostState) -> bool
     !host.is_out && 0 < consecutive && host.streak + 1 == consecutive
 }
 
-/// The host after a bad result that doesn't make it trip.
 fn with_bad(rules: &Rules, host: HostState) -> HostState
     requires range { IsInRange rules.now }
     requires sound { IsSound rules.now host }
@@ -149,7 +138,6 @@ fn with_bad(rules: &Rules, host: HostState) -> HostState
     }
 }
 
-/// Counts a good result of a host.
 pub(crate) fn take_good(hosts: &mut [HostState], host: usize)
     requires among { host < length hosts.old }
     requires share { (slice_index_or hosts.old host fresh_host).good_results ≤
@@ -160,7 +148,6 @@ pub(crate) fn take_good(hosts: &mut [HostState], host: usize)
     hosts[host] = without_streak(after);
 }
 
-/// Counts a bad result of a host at the clock `now`, and returns whether the host trips.
 pub(crate) fn take_bad(rules: &Rules, now: u64, hosts: &mut [HostState], host: usize) -> Trip
     requires range { IsInRange rules.now }
     requires all { length hosts.old ≡ rules.now.hosts }

@@ -1,4 +1,3 @@
-//! Outlier detection: which hosts are ejected, and until when.
 ghost use Rattle.std.specs.Prelude.{◌≡◌, List, ◌∷◌, ◌<◌, ◌≤◌, IfOk, IfErr, IsOk, IsErrOf, MatchOption, None, length, map};
 ghost use Rattle.ejector.specs.Settings.{first_fault};
 ghost use Rattle.ejector.specs.declared.mark.Mark.{Mark};
@@ -21,15 +20,11 @@ use limits::MAX_HOSTS;
 use std::alloc::Global;
 use std::marker::Model;
 
-/// Outlier detection over the hosts 0 to `n - 1`.
-///
-/// It takes results and sweeps, its marks, and knows which hosts are out. Its state follows from its opening state and
-/// the list of its marks. It keeps that state and no marks.
+/// Outlier detection over the hosts 0 to `n - 1`, by results and sweeps. Only `new` and `new_from` take memory.
 #[derive(Drop)]
 pub struct Ejector {
     rules: Rules,
     clock: u64,
-    // One for each host, by their numbers.
     hosts: Vec<HostState>,
 }
 
@@ -51,10 +46,10 @@ impl Model for Ejector {
 }
 
 impl Ejector {
-    /// An ejector of `n` hosts without a mark.
+    /// An ejector without a mark.
     ///
-    /// Refused 502 exactly if a field is out of its range, with the first such: `hosts` if `n` is 0 or over 64, then
-    /// the settings in their order. If none is, it is refused only 501, for want of memory.
+    /// Refused 502 with the first field out of its range: `hosts` if `n` is 0 or over 64, then the settings in
+    /// their order. Else refused only 501 (no memory).
     pub fn new(alloc: Global, n: usize, settings: Settings) -> Result<Ejector, EjectError>
         ensures made { IfOk result (λ e. (e.rules ≡ record { hosts = n; settings = settings })
             × (e.state ≡ fresh_state e.rules)) }
@@ -74,10 +69,7 @@ impl Ejector {
         })
     }
 
-    /// An ejector that starts from another's state: its hosts and settings, its clock, which hosts are out and until
-    /// when, and multipliers, streaks and tallies.
-    ///
-    /// Refused only 501, for want of memory.
+    /// An ejector that starts from another's state. Refused only 501 (no memory).
     pub fn new_from(alloc: Global, from: EjectState) -> Result<Ejector, EjectError>
         ensures made { IfOk result (λ e. e ≡ from) }
         ensures refused { IfErr result (λ e. e ≡ EjectError.NoMemory) }
@@ -89,14 +81,14 @@ impl Ejector {
         })
     }
 
-    /// The state: an ejector made from it goes on as this one would. It takes no memory.
+    /// The state. An ejector made from it goes on as this one would.
     pub fn snapshot(&self) -> EjectState
         ensures { result ≡ self.now }
     {
         EjectState::new(self.rules, self.clock, &self.hosts)
     }
 
-    /// The number of hosts and the settings. All fields are in range, and allow the state. It takes no memory.
+    /// The number of hosts and the settings.
     pub fn rules(&self) -> &Rules
         ensures rules { result.now ≡ self.now.rules }
         ensures range { first_fault self.now.rules ≡ None }
@@ -105,11 +97,8 @@ impl Ejector {
         &self.rules
     }
 
-    /// Takes a result of a host at moment `t`, and returns whether the host tripped.
-    ///
-    /// For every opening and list of marks with the ejector's state, the new state is that of the list with this mark,
-    /// and the answer is this mark's effect. It takes no memory, and is always Ok. Its cost doesn't depend on earlier
-    /// marks; it looks at all hosts only if the host trips.
+    /// Takes a result of a host at moment `t`, and returns its effect. It is always Ok. It looks at all hosts only
+    /// if the host trips.
     pub fn result(&mut self, host: usize, ok: bool, t: u64) -> Result<Trip, EjectError>
         requires { host < self.old.rules.hosts }
         ensures state { (O : State) (marks : List Mark)
@@ -130,10 +119,7 @@ impl Ejector {
         Ok(take_bad(&self.rules, self.clock, &mut self.hosts, host))
     }
 
-    /// Takes a sweep at moment `t`, and returns the numbers of hosts that came back, went out, and tripped and stayed.
-    ///
-    /// For every opening and list of marks with the ejector's state, the new state is that of the list with this mark,
-    /// and the answer is this mark's effect. It takes no memory, and is always Ok.
+    /// Takes a sweep at moment `t`. It is always Ok.
     pub fn sweep(&mut self, t: u64) -> Result<Swept, EjectError>
         ensures state { (O : State) (marks : List Mark)
             → state self.old.rules O marks ≡ self.old.state
@@ -149,7 +135,7 @@ impl Ejector {
         Ok(take_sweep(&self.rules, self.clock, &mut self.hosts))
     }
 
-    /// Whether the host may be used: it isn't out, or all are used in panic.
+    /// Whether the host isn't out, or all are used in panic.
     pub fn usable(&self, host: usize) -> bool
         requires { host < self.now.rules.hosts }
         ensures { result ≡ is_usable self.now.rules self.now.state host }
@@ -157,8 +143,7 @@ impl Ejector {
         self.in_panic() || !self.is_out(host)
     }
 
-    /// Writes whether each host may be used, in its place, as `usable` returns it. There must be a place for each host.
-    /// It looks at each host once, and takes no memory.
+    /// Writes whether each host may be used, in its place.
     pub fn all_usable(&self, usable: &mut [bool])
         requires { length usable.old ≡ self.now.rules.hosts }
         ensures { usable.new ≡ map (is_usable self.now.rules self.now.state)
@@ -178,8 +163,7 @@ impl Ejector {
         self.hosts[host].is_out
     }
 
-    /// The host's multiplier: its last ejection lasts this many times `base_ms`. Each sweep that finds it not out
-    /// lowers it by one.
+    /// The host's last ejection lasts this many times `base_ms`. Each sweep that finds it not out lowers it by one.
     pub fn multiplier(&self, host: usize) -> u32
         requires { host < self.now.rules.hosts }
         ensures { result ≡ (host_of self.now.state host).multiplier }
@@ -187,7 +171,7 @@ impl Ejector {
         self.hosts[host].multiplier
     }
 
-    /// Whether so few hosts are available that all are used.
+    /// Whether too few hosts are available, so that all are used.
     pub fn in_panic(&self) -> bool
         ensures { result ≡ is_panic self.now.rules self.now.state }
     {

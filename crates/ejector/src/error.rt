@@ -1,4 +1,3 @@
-//! Why an ejector refused a call.
 ghost use Rattle.std.specs.Prelude.{◌≡◌};
 ghost use Rattle.ejector.specs.EjectError.{number_of};
 ghost use Rattle.ejector.specs.declared.error.EjectError.TheVariants.{NoMemory};
@@ -13,13 +12,13 @@ pub enum EjectError {
     /// 501: memory was refused.
     #[error("out of memory")]
     NoMemory,
-    /// 502: this field is out of its range, and none before it is.
+    /// 502: this field is the first out of its range.
     #[error("the setting {field} is out of its range")]
     BadSettings { field: Field },
 }
 
 impl EjectError {
-    /// The error's number: 501 or 502.
+    /// 501 or 502.
     pub fn number(&self) -> u16
         ensures { result ≡ number_of self.now }
     {

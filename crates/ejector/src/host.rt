@@ -1,5 +1,3 @@
-//! The counters of a host.
-
 /// The counters of one host.
 #[derive(Clone, Copy, Debug, PartialEq, Eq)]
 pub struct HostState {

@@ -1,6 +1,3 @@
-//! Laws of every list of marks.
-
-// Laws of every list of marks, from every opening state.
 ghost use Rattle.ejector.specs.Laws.{BackOnceTimeIsOver, FewAreOut, GoodEndsStreak, OpeningComesFirst, OpeningsStay, OthersChangeNothing, OthersMatterByLimitAndRates, OutUntilTimeIsOver, StateDecidesNext, StateGoesOn};
 
 /// Before the first mark the state is the opening state.
@@ -8,23 +5,22 @@ pub fn opening_comes_first()
     ensures { OpeningComesFirst }
 {}
 
-/// The state after marks can be an opening state itself.
+/// The state after marks can be an opening state.
 pub fn openings_stay()
     ensures { OpeningsStay }
 {}
 
-/// The state may be handed on at any mark: later marks lead to the same states from it as behind the earlier marks.
+/// The state may be handed on at any mark.
 pub fn state_goes_on()
     ensures { StateGoesOn }
 {}
 
-/// After every beginning of every list of marks, at most as many hosts are out as the limit allows:
-/// `max_percent` of them, rounded up, and at least one.
+/// At most `max_percent` of the hosts are out, rounded up, and at least one may be.
 pub fn few_are_out()
     ensures { FewAreOut }
 {}
 
-/// The state before a mark determines the state after it; nothing else of marks or opening matters.
+/// The state before a mark alone determines the state after it.
 pub fn state_decides_next()
     ensures { StateDecidesNext }
 {}
@@ -34,8 +30,7 @@ pub fn out_until_time_is_over()
     ensures { OutUntilTimeIsOver }
 {}
 
-/// A sweep after the time of an ejected host brings it back. The host is out after that sweep
-/// exactly if the sweep ejected it again.
+/// A sweep after the time of an ejected host brings it back. That sweep may eject it again.
 pub fn back_once_time_is_over()
     ensures { BackOnceTimeIsOver }
 {}

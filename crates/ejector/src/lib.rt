@@ -1,8 +1,7 @@
-//! Outlier detection: which hosts are ejected because they fail, and when they come back.
+//! Outlier detection: which hosts are ejected, and when they come back.
 //!
-//! It follows Envoy's, in this project's own profile. Consecutive failures and success rates trip a host, and a limit
-//! bounds the hosts that are out. An ejected host stays out until a sweep after its time. Another ejector can start
-//! from the state. It stands on `rate_core`, `limits` and `list_lemmas`. Begin with `ejector.rt`.
+//! It follows Envoy's, in this project's own profile. It stands on `rate_core`, `limits` and `list_lemmas`. Begin
+//! with `ejector.rt`.
 #![tactic(auto)]
 
 mod answer;

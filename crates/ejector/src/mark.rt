@@ -1,6 +1,4 @@
-//! The input of outlier detection.
-
-/// An input of an ejector: a host's good or bad result, or a sweep, each with its moment in milliseconds.
+/// An input of an ejector. Moments are in milliseconds.
 #[derive(Clone, Copy, Debug, PartialEq, Eq)]
 pub enum Mark {
     /// A good result of a host.

@@ -1,41 +1,40 @@
-//! The settings, and the rules that they form with a number of hosts.
 ghost use Rattle.std.specs.Prelude.{◌≡◌};
 ghost use Rattle.ejector.specs.Settings.{default_settings, is_within, first_failing, first_fault, first_difference, settings_tests, settings_comparisons};
 
 use limits::MAX_HOSTS;
 use std::fmt;
 
-/// The settings of outlier detection, as in a settings file.
+/// The settings of outlier detection.
 #[derive(Clone, Copy, Debug, PartialEq, Eq)]
 pub struct Settings {
     /// Whether keys are hashed by their tag. It doesn't affect an ejector.
     pub tags: bool,
-    /// The time from one sweep to the next, in milliseconds: 1 to 3,600,000. The caller of `sweep` keeps it.
+    /// The milliseconds from one sweep to the next: 1 to 3,600,000. `sweep`'s caller keeps it.
     pub interval_ms: u32,
-    /// The duration of a host's first ejection, in milliseconds: 1 to 3,600,000.
+    /// The milliseconds of a host's first ejection: 1 to 3,600,000.
     pub base_ms: u32,
-    /// The longest ejection, in milliseconds: `base_ms` to 86,400,000.
+    /// The most milliseconds of an ejection: `base_ms` to 86,400,000.
     pub max_ms: u32,
-    /// The share of hosts that may be out, in percent: 0 to 100. One host always may.
+    /// The percentage of hosts that may be out: 0 to 100. One always may.
     pub max_percent: u32,
-    /// A host trips after this many consecutive bad results: 0 to 1,000,000; 0 turns this off.
+    /// A host trips after this many bad results in a row: 0 to 1,000,000; 0 turns this off.
     pub consecutive: u32,
-    /// Compare success rates only if at least this many hosts have one: 1 to 65.
+    /// Rates are compared if this many hosts have one: 1 to 65.
     pub success_hosts: u32,
-    /// The results in an interval that give a host a success rate: 1 to 1,000,000.
+    /// The results in an interval that give a host a rate: 1 to 1,000,000.
     pub request_volume: u32,
-    /// A rate is an outlier if more than this far below the mean, in thousandths of the standard deviation: 0 to 100,000.
+    /// How far below the mean an outlier's rate is, in thousandths of the standard deviation: 0 to 100,000.
     pub factor: u32,
-    /// Use all hosts if fewer than this share is available, in percent: 0 to 100.
+    /// All hosts are used if a smaller percentage is available: 0 to 100.
     pub panic_percent: u32,
 }
 
-/// The rules of an ejector, which never change.
+/// The rules of an ejector.
 #[derive(Clone, Copy, Debug, PartialEq, Eq)]
 pub struct Rules {
-    /// The number of hosts; they are numbered from 0.
+    /// The number of hosts.
     pub hosts: usize,
-    /// The settings of outlier detection.
+    /// The settings.
     pub settings: Settings,
 }
 
@@ -58,12 +57,12 @@ impl Default for Settings {
     }
 }
 
-/// A field that a refusal names, in the order of checking.
+/// A field that a refusal names.
 #[derive(Clone, Copy, Debug, PartialEq, Eq)]
 pub enum Field {
     /// The number of hosts: 1 to 64.
     Hosts,
-    /// Whether keys are hashed by their tag. It is never out of its range.
+    /// It is never out of its range.
     Tags,
     IntervalMs,
     BaseMs,
@@ -94,7 +93,6 @@ impl fmt::Display for Field {
     }
 }
 
-/// Whether a number is from `low` to `high`.
 fn is_within(low: u32, high: u32, n: u32) -> bool
     ensures { result ≡ is_within low high n }
 {
@@ -102,7 +100,7 @@ fn is_within(low: u32, high: u32, n: u32) -> bool
 }
 
 impl Rules {
-    /// The first field out of its range: `hosts`, then the settings in their order.
+    /// The first field out of its range.
     pub fn first_fault(&self) -> Option<Field>
         ensures { result ≡ first_fault self.now }
     {
@@ -112,7 +110,7 @@ impl Rules {
         self.settings.first_fault()
     }
 
-    /// The first field that differs from other rules: `hosts`, then the settings in their order.
+    /// The first field that differs.
     pub fn first_difference(&self, other: &Rules) -> Option<Field>
         ensures { result ≡ first_difference self.now other.now }
     {

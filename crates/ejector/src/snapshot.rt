@@ -1,4 +1,3 @@
-//! A state of outlier detection, to start from.
 ghost use Rattle.std.specs.Prelude.{◌≡◌, ◌<◌, length, None};
 ghost use Rattle.ejector.specs.Settings.{first_fault};
 ghost use Rattle.ejector.specs.Opening.{IsOpening};
@@ -9,14 +8,12 @@ use crate::settings::Rules;
 use limits::MAX_HOSTS;
 use std::marker::Model;
 
-/// An ejector's state for another one, with its number of hosts and its settings.
-///
-/// Only `Ejector::snapshot` makes one. At most as many hosts are out in it as its settings allow.
+/// An ejector's state, to start another from.
 #[derive(Drop)]
 pub struct EjectState {
     rules: Rules,
     clock: u64,
-    // By their numbers, with fresh ones behind the last host.
+    // By number, with fresh ones behind the last host.
     hosts: [HostState; MAX_HOSTS],
 }
 
@@ -38,7 +35,6 @@ impl Model for EjectState {
 }
 
 impl EjectState {
-    /// The state of these hosts at this clock.
     pub(crate) fn new(rules: Rules, clock: u64, hosts: &[HostState]) -> EjectState
         requires range { first_fault rules ≡ None }
         requires opening { IsOpening rules (record { clock = clock; hosts = hosts.now }) }
@@ -54,8 +50,7 @@ impl EjectState {
         }
     }
 
-    /// The number of hosts and the settings, all in range. They allow this state: it has this many hosts, each counter
-    /// is in range, and the limit is kept.
+    /// The number of hosts and the settings, which allow this state.
     pub fn rules(&self) -> &Rules
         ensures rules { result.now ≡ self.now.rules }
         ensures range { first_fault self.now.rules ≡ None }
@@ -73,14 +68,12 @@ impl EjectState {
         self.hosts()[host].is_out
     }
 
-    /// The clock.
     pub(crate) fn clock(&self) -> u64
         ensures { result ≡ self.now.state.clock }
     {
         self.clock
     }
 
-    /// The counters of each host, by their numbers.
     pub(crate) fn hosts(&self) -> &[HostState]
         ensures { result.now ≡ self.now.state.hosts }
     {

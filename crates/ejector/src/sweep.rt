@@ -1,4 +1,3 @@
-//! A sweep over all hosts.
 ghost use Rattle.std.specs.Prelude.{◌≡◌, ◌+◌, ◌-◌, ◌*◌, ◌<◌, ◌≤◌, ◌&&◌, length, map, count_by, is_some, nat_le, All};
 ghost use Rattle.std.specs.Option.{ForSome};
 ghost use Rattle.std.specs.List.{range_with_len};
@@ -13,7 +12,6 @@ use crate::settings::Rules;
 use limits::MAX_HOSTS;
 use rate_core::{is_outlier, rate};
 
-/// Whether an ejection is over at the clock `now`.
 fn is_time_over(rules: &Rules, now: u64, host: HostState) -> bool
     ensures { result ≡ is_time_over rules.now now host }
 {
@@ -22,14 +20,13 @@ fn is_time_over(rules: &Rules, now: u64, host: HostState) -> bool
     lasts.min(u64::from(settings.max_ms)) <= now.saturating_sub(host.start)
 }
 
-/// Whether a host comes back at the clock `now`.
 fn is_returning(rules: &Rules, now: u64, host: HostState) -> bool
     ensures { result ≡ is_returning rules.now now host }
 {
     host.is_out && is_time_over(rules, now, host)
 }
 
-/// The host after the returns of a sweep: back if its time is over, or with a lower multiplier if it wasn't out.
+/// The multiplier of a host that isn't out falls by one.
 fn with_return(rules: &Rules, now: u64, host: HostState) -> HostState
     ensures { result ≡ with_return rules.now now host }
 {
@@ -49,7 +46,6 @@ fn with_return(rules: &Rules, now: u64, host: HostState) -> HostState
     }
 }
 
-/// Returns the hosts whose time is over, and their number.
 fn return_hosts(rules: &Rules, now: u64, hosts: &mut [HostState]) -> u32
     requires few { length hosts.old ≤ MAX_HOSTS }
     ensures hosts { hosts.new ≡ map (with_return rules.now now) hosts.old }
@@ -66,7 +62,6 @@ fn return_hosts(rules: &Rules, now: u64, hosts: &mut [HostState]) -> u32
     returned
 }
 
-/// The success rate of a host, if it has one in this interval.
 fn rate_of(rules: &Rules, host: HostState) -> Option<u32>
     requires { host.good_results ≤ host.results }
     ensures value { result ≡ rate_then rules.now host }
@@ -78,7 +73,6 @@ fn rate_of(rules: &Rules, host: HostState) -> Option<u32>
     rate(host.good_results, host.results)
 }
 
-/// The success rates of the hosts, each in its host's place.
 fn set_rates(rules: &Rules, hosts: &[HostState], rates: &mut [Option<u32>])
     requires same { length rates.old ≡ length hosts.now }
     requires share { All (λ host. host.good_results ≤ host.results) hosts.now }
@@ -90,21 +84,18 @@ fn set_rates(rules: &Rules, hosts: &[HostState], rates: &mut [Option<u32>])
     }
 }
 
-/// The number of known rates.
 fn known_count(rates: &[Option<u32>]) -> usize
     ensures { result ≡ count_by is_some rates.now }
 {
     rates.iter().filter(|rate| rate.is_some()).count()
 }
 
-/// The number of hosts that tripped and were ejected, and of those that tripped and stayed.
 #[derive(Clone, Copy)]
 struct TripCounts {
     ejected: u32,
     kept: u32,
 }
 
-/// Whether a host trips by these rates; `enough` says whether there are enough of them.
 fn trips(rules: &Rules, enough: bool, rates: &[Option<u32>], host: usize) -> bool
     requires range { IsInRange rules.now }
     requires same { length rates.now ≡ rules.now.hosts }
@@ -117,7 +108,6 @@ fn trips(rules: &Rules, enough: bool, rates: &[Option<u32>], host: usize) -> boo
     enough && is_outlier(rates, host, rules.settings.factor)
 }
 
-/// Trips the outliers by these rates, by rising number, at the clock `now`.
 fn trip_outliers(
     rules: &Rules,
     now: u64,
@@ -158,7 +148,6 @@ fn trip_outliers(
     TripCounts { ejected, kept }
 }
 
-/// Begins a new interval.
 fn clear_tallies(hosts: &mut [HostState])
     ensures { hosts.new ≡ map in_new_interval hosts.old }
 {
@@ -168,7 +157,7 @@ fn clear_tallies(hosts: &mut [HostState])
     }
 }
 
-/// Counts a sweep at the clock `now`: hosts come back, then outliers trip, and then a new interval begins.
+/// Hosts come back, then outliers trip, and then a new interval begins.
 pub(crate) fn take_sweep(rules: &Rules, now: u64, hosts: &mut [HostState]) -> Swept
     requires range { IsInRange rules.now }
     requires all { length hosts.old ≡ rules.now.hosts }

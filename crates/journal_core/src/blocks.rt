@@ -1,4 +1,3 @@
-//! A list that grows in blocks of memory.
 ghost use Rattle.std.specs.Prelude.{◌≡◌, ◌<◌, ◌-◌, ◌^◌, true, [], ◌∷◌, ◌++◌, length, slice_get, OnOk, OnErr, IsOk};
 ghost use Rattle.std.specs.Option.{option_copied};
 
@@ -6,18 +5,13 @@ use std::alloc::{AllocError, Global};
 use std::marker::Model;
 use std::mem;
 
-/// The elements of a block.
 pub(crate) const BLOCK: usize = 64;
 
-/// A list that grows at its end, in blocks of memory with room for 64 elements each, so that no element is ever moved.
-///
-/// Contracts see the elements, and whether there is room for one more.
+/// A list that grows in blocks of 64 elements, so that no element is ever moved.
 #[derive(Drop)]
 pub(crate) struct Blocks<T> {
     alloc: Global,
-    // Blocks that are full.
     full: Vec<Vec<T>>,
-    // The elements behind the full blocks.
     last: Vec<T>,
     len: usize,
 }
@@ -39,7 +33,6 @@ impl<T> Model for Blocks<T> {
 }
 
 impl<T> Blocks<T> {
-    /// No element, and no room yet.
     pub(crate) fn new(alloc: Global) -> Blocks<T>
         ensures { result.items ≡ [] }
     {
@@ -69,7 +62,6 @@ impl<T> Blocks<T> {
         Ok(())
     }
 
-    /// Adds an element, for which there must be room.
     pub(crate) fn push_reserved(&mut self, value: T)
         requires room { self.old.has_room ≡ true }
         requires few { length self.old.items < 2 ^ 64 - 1 }
@@ -79,7 +71,6 @@ impl<T> Blocks<T> {
         self.len += 1;
     }
 
-    /// Element `i`, counted from 0.
     pub(crate) fn get(&self, i: usize) -> Option<&T>
         ensures { option_copied result ≡ slice_get self.now.items i }
     {
@@ -90,7 +81,6 @@ impl<T> Blocks<T> {
         }
     }
 
-    /// The number of elements.
     pub(crate) fn len(&self) -> usize
         ensures { result ≡ length self.now.items }
     {
@@ -98,7 +88,6 @@ impl<T> Blocks<T> {
     }
 }
 
-// Element `i` of these.
 fn element<T>(all: &Vec<T>, i: usize) -> Option<&T>
     ensures { option_copied result ≡ slice_get all.now.items i }
 {

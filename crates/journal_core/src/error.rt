@@ -1,4 +1,3 @@
-//! Why a journal has no room.
 ghost use Rattle.std.specs.Prelude.{◌≡◌};
 ghost use Rattle.journal_core.specs.declared.error.JournalError.TheVariants.{NoMemory};
 
@@ -19,7 +18,7 @@ pub enum JournalError {
 impl JournalError {
     ghost use Rattle.journal_core.specs.Error.{number_of};
 
-    /// The number by which the error is documented, 901 or 902.
+    /// 901 or 902.
     pub fn number(self) -> u16
         ensures { result ≡ number_of self }
     {

@@ -1,4 +1,3 @@
-//! The journal.
 ghost use Rattle.std.specs.Prelude.{◌≡◌, ◌+◌, ◌-◌, ◌≤◌, ◌<◌, ◌↔◌, true, false, [], ◌∷◌, ◌++◌, Some, None, length, slice_get, OnOk, OnErr, IfErr, IfSome, IsErrOf, IsSome};
 ghost use Rattle.std.specs.Option.{option_copied};
 ghost use Rattle.journal_core.specs.Journal.{IsFull};
@@ -10,18 +9,17 @@ use limits::{MAX_BYTES, MAX_STEPS};
 use std::alloc::Global;
 use std::marker::Model;
 
-/// Steps in the order in which they were made, with their bytes of payload. None is ever changed or removed.
+/// Steps in the order in which they were made, with their bytes of payload.
 ///
-/// A journal that records keeps all steps. One that only counts keeps no more than the newest, in the same
-/// limits. Contracts see all steps of either, the oldest first, their bytes, the room made, and whether it records.
+/// A journal that records keeps all steps. One that only counts keeps the newest, in the same limits. Contracts see
+/// all steps of either. Only `room` takes memory.
 pub struct Journal<E, A> {
     steps: Kept<Step<E, A>>,
     bytes: u64,
-    // The bytes that there is room for, from `room` to `add`.
+    // From `room` to `add`.
     room: Option<u64>,
 }
 
-// Written out so that a drop is one call: each function that holds one is proved sooner.
 impl<E: Drop, A: Drop> Drop for Journal<E, A> {
     fn drop(self) {
         let Journal {
@@ -50,7 +48,7 @@ impl<E, A> Model for Journal<E, A> {
 }
 
 impl<E, A> Journal<E, A> {
-    /// A journal without steps or room, which keeps all steps.
+    /// An empty journal, which keeps all steps.
     pub fn new(alloc: Global) -> Journal<E, A>
         ensures steps { result.steps ≡ [] }
         ensures bytes { result.bytes ≡ 0 }
@@ -64,7 +62,7 @@ impl<E, A> Journal<E, A> {
         }
     }
 
-    /// A journal without steps or room, which keeps no more than the newest step. It never takes memory.
+    /// An empty journal, which keeps the newest step alone. It never takes memory.
     pub fn counting() -> Journal<E, A>
         ensures steps { result.steps ≡ [] }
         ensures bytes { result.bytes ≡ 0 }
@@ -78,11 +76,10 @@ impl<E, A> Journal<E, A> {
         }
     }
 
-    /// Makes room for one step with this many bytes of payload; the next call may be `add` with the same number. It
-    /// replaces room that wasn't used.
+    /// Makes room for one step with this many bytes of payload, in place of room that wasn't used.
     ///
-    /// Refused 902 (journal full) exactly if there are 262,144 steps or the bytes would pass 67,108,864, else 901 (no
-    /// memory). After a refusal the journal and its earlier room are unchanged.
+    /// Refused 902 (journal full) if there are 262,144 steps or the bytes would pass 67,108,864, else 901 (no
+    /// memory).
     #[inline(always)]
     pub fn room(&mut self, bytes: u64) -> Result<(), JournalError>
         ensures room { OnOk result (self.new.room ≡ Some bytes) }
@@ -104,7 +101,7 @@ impl<E, A> Journal<E, A> {
         Ok(())
     }
 
-    /// The number of steps, at most 262,144. It takes no memory.
+    /// The number of steps, at most 262,144.
     pub fn len(&self) -> usize
         ensures steps { result ≡ length self.now.steps }
         ensures limit { result ≤ MAX_STEPS }
@@ -112,7 +109,7 @@ impl<E, A> Journal<E, A> {
         self.steps.len()
     }
 
-    /// The bytes of payload of the steps, at most 67,108,864. It takes no memory.
+    /// The bytes of payload, at most 67,108,864.
     pub fn bytes(&self) -> u64
         ensures bytes { result ≡ self.now.bytes }
         ensures limit { result ≤ MAX_BYTES }
@@ -130,7 +127,7 @@ impl<E, A> Journal<E, A> {
         self.steps.get(i)
     }
 
-    /// The newest step, or `None` if there is none. Each journal keeps it. It takes no memory.
+    /// The newest step, which each journal keeps.
     pub fn last(&self) -> Option<&Step<E, A>>
         ensures { option_copied result ≡ slice_get self.now.steps (length self.now.steps - 1) }
     {
@@ -146,7 +143,7 @@ impl<E, A> Journal<E, A> {
 }
 
 impl<E: Drop, A: Drop> Journal<E, A> {
-    /// Adds a step with this many bytes of payload, for which room was made. It takes no memory.
+    /// Adds a step with this many bytes of payload, for which room was made.
     #[inline(always)]
     pub fn add(&mut self, step: Step<E, A>, bytes: u64)
         requires { self.old.room ≡ Some bytes }

@@ -1,4 +1,3 @@
-//! A list of which all elements are kept, or only the newest.
 ghost use Rattle.std.specs.Prelude.{◌≡◌, ◌<◌, ◌-◌, ◌^◌, true, false, [], ◌∷◌, ◌++◌, Some, length, slice_get, OnOk, OnErr, IfSome, IsOk};
 ghost use Rattle.std.specs.Option.{option_copied};
 
@@ -7,16 +6,13 @@ use crate::list::Listed;
 use std::alloc::{AllocError, Global};
 use std::marker::Model;
 
-/// A list that grows at its end. Either it keeps all its elements, or no more than the newest.
-///
-/// Contracts see all elements, whether there is room for one more, and whether all are kept.
+/// A list of which all elements are kept, or only the newest. Contracts see all.
 pub(crate) struct Kept<T> {
-    // All elements, where all are kept.
+    // None where only the newest is kept.
     all: Option<Blocks<T>>,
-    // The newest, where no more is kept.
     newest: Option<T>,
     len: usize,
-    // All elements, for contracts alone.
+    // For contracts alone.
     list: Listed<T>,
 }
 
@@ -47,7 +43,6 @@ impl<T> Model for Kept<T> {
 }
 
 impl<T> Kept<T> {
-    /// No element. All that are added are kept.
     pub(crate) fn whole(alloc: Global) -> Kept<T>
         ensures items { result.items ≡ [] }
         ensures whole { result.is_whole ≡ true }
@@ -73,7 +68,6 @@ impl<T> Kept<T> {
         }
     }
 
-    /// Makes room for one more element, if there is none. Refused for want of memory; nothing changes then.
     #[inline(always)]
     pub(crate) fn reserve_one(&mut self) -> Result<(), AllocError>
         ensures items { self.new.items ≡ self.old.items }
@@ -88,7 +82,6 @@ impl<T> Kept<T> {
         }
     }
 
-    /// Element `i`, counted from 0, if it is kept.
     pub(crate) fn get(&self, i: usize) -> Option<&T>
         ensures item { IfSome result (λ e. slice_get self.now.items i ≡ Some e.now) }
         ensures whole { self.now.is_whole ≡ true
@@ -101,7 +94,6 @@ impl<T> Kept<T> {
         }
     }
 
-    /// The newest element, if there is one.
     pub(crate) fn last(&self) -> Option<&T>
         ensures { option_copied result ≡ slice_get self.now.items (length self.now.items - 1) }
     {
@@ -111,14 +103,12 @@ impl<T> Kept<T> {
         }
     }
 
-    /// Whether all elements are kept.
     pub(crate) fn is_whole(&self) -> bool
         ensures { result ≡ self.now.is_whole }
     {
         self.all.is_some()
     }
 
-    /// The number of elements.
     pub(crate) fn len(&self) -> usize
         ensures { result ≡ length self.now.items }
     {
@@ -127,7 +117,6 @@ impl<T> Kept<T> {
 }
 
 impl<T: Drop> Kept<T> {
-    /// Adds an element, for which there must be room.
     #[inline(always)]
     pub(crate) fn push_reserved(&mut self, value: T)
         requires room { self.old.has_room ≡ true }

@@ -1,4 +1,3 @@
-//! The limits of a journal, as the contract of a function that does nothing.
 ghost use Rattle.std.specs.Prelude.{◌≡◌};
 
 use limits::{MAX_BYTES, MAX_STEPS};

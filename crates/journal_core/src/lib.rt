@@ -1,8 +1,7 @@
 //! A list of steps that only grows, the oldest first.
 //!
-//! A journal limits its steps and their bytes of payload. Room for a step is made before anything else is done, since
-//! only that can be refused. Once there is room, adding the step takes no memory and can't fail. It stands on `limits`.
-//! Begin with `journal.rt`.
+//! A journal limits its steps and their bytes of payload. Room for a step is made before anything else is done,
+//! since only that can be refused. It stands on `limits`. Begin with `journal.rt`.
 #![tactic(auto)]
 
 mod blocks;

@@ -1,10 +1,9 @@
-//! A list that only proofs read. It takes no memory, and its methods do nothing at run time.
+//! A list that only proofs read. It takes no memory.
 ghost use Rattle.std.specs.Prelude.{◌≡◌, ◌∷◌, ◌++◌, List, []};
 ghost use Rattle.std.specs.Borrow.{ftrue};
 
 use std::marker::{Model, PhantomData};
 
-/// The elements so far, the oldest first. Contracts read them as `items`.
 pub(crate) struct Listed<T> {
     marker: PhantomData<T>,
     pub ghost items: { List T },
@@ -21,7 +20,6 @@ impl<T> Drop for Listed<T> {
 }
 
 impl<T> Listed<T> {
-    /// No element.
     #[inline(always)]
     pub(crate) fn new() -> Listed<T>
         ensures { result.items ≡ [] }
@@ -31,7 +29,6 @@ impl<T> Listed<T> {
         }
     }
 
-    /// Its elements, and this one behind them.
     #[inline(always)]
     pub(crate) fn and(&self, _item: &T) -> Listed<T>
         ensures { result.items ≡ self.now.items ++ _item.now ∷ [] }

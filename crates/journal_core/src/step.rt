@@ -1,9 +1,7 @@
-//! One step of a history.
-
-/// One step: the pass that made it, the event, and the answer.
+/// One step of a history.
 #[derive(Clone, Copy, Debug, PartialEq, Eq, Drop)]
 pub struct Step<E, A> {
-    /// The number of the pass that made the step.
+    /// The number of its pass.
     pub pass: u64,
     /// The event.
     pub event: E,

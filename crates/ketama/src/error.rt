@@ -1,4 +1,3 @@
-//! Why a ring or a host's name was refused.
 ghost use Rattle.std.specs.Prelude.{◌≡◌};
 ghost use Rattle.ketama.specs.RingError.{number_of};
 ghost use Rattle.ketama.specs.declared.error.RingError.TheVariants.{NoMemory};
@@ -21,7 +20,7 @@ pub enum RingError {
     #[error("there are more than 64 hosts")]
     TooManyHosts,
 
-    /// 304: there aren't as many weights as hosts, or one is not from 1 to 100.
+    /// 304: a weight is missing, too many, or not from 1 to 100.
     #[error("the weights do not fit the hosts")]
     BadWeights,
 
@@ -43,7 +42,7 @@ impl From<AllocError> for RingError {
 }
 
 impl RingError {
-    /// The number under which the error is documented, from 301 to 306.
+    /// 301 to 306.
     pub fn number(self) -> u16
         ensures { result ≡ number_of self }
     {

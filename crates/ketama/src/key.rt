@@ -1,4 +1,3 @@
-//! The point of a key.
 ghost use Rattle.std.specs.Prelude.{◌≡◌, ◌==◌, List, ℕ, IsTrue, IfSome, IfNone, Contains, position};
 ghost use Rattle.ketama.specs.Key.{IsSplitAt, IsTagOf, tag_or_key, hashed_part, point_of, point_of_bytes};
 
@@ -7,14 +6,11 @@ use md5::{Digest, Md5};
 
 /// The point of a key on the ring: bytes 0 to 3 of its MD5, the least significant first.
 ///
-/// With `tags`, a key with a hash tag is hashed by the tag alone, so that keys with one tag have
-/// one owner. The tag is the text between the key's first `{` and the first `}` after it. Both must
-/// exist, with at least one byte between them (the rule of the Redis Cluster specification). Takes
-/// no memory.
+/// With `tags`, only the text between the key's first `{` and the first `}` after it is hashed, if there is any
+/// (the rule of the Redis Cluster specification).
 pub fn point_of_key(key: &[u8], tags: bool) -> u32
     ensures value { result ≡ point_of key.now tags }
 
-    // The same in terms of the key's parts.
     ensures tag { IsTrue tags → (tag : List ℕ) → IsTagOf key.now tag → result ≡ point_of_bytes tag }
     ensures whole { (IsTrue tags → (tag : List ℕ) → ¬ IsTagOf key.now tag)
         → result ≡ point_of_bytes key.now }
@@ -44,7 +40,6 @@ fn tag_of(key: &[u8]) -> Option<&[u8]>
     if tag.is_empty() { None } else { Some(tag) }
 }
 
-// The parts before and after the first such byte.
 fn split_once(bytes: &[u8], byte: u8) -> Option<(&[u8], &[u8])>
     ensures split { IfSome result (λ parts. IsSplitAt byte bytes.now parts.0.now parts.1.now) }
     ensures absent { IfNone result (¬ Contains bytes.now byte) }

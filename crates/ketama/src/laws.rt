@@ -1,32 +1,29 @@
-//! Laws of owners on every ring and of the shares of digests. Each is the contract of a function
-//! that does nothing; proofs of callers call it.
-
 ghost use Rattle.std.specs.Prelude.{List, ℕ, Bool};
 ghost use Rattle.ketama.specs.OwnerLaws.{OwnerIsOne, OthersKeepTheirPoints, FirstChoiceStands, OwnersGoByMembers};
 ghost use Rattle.ketama.specs.Shares.{EqualWeightsGiveForty, DigestsAreFew, HeaviestHasForty};
 
-/// A point has one owner: `owner_of` is it, and no other answer is.
+/// A point has one owner: `owner_of` is it.
 pub fn owner_is_one()
     ensures { (pairs : List (ℕ × ℕ)) (point : ℕ) (usable : List Bool)
         → OwnerIsOne pairs point usable }
 {}
 
-/// When a host goes out, points that it doesn't own keep their owners.
+/// When a host goes out, other hosts' points keep their owners.
 pub fn others_keep_their_points()
     ensures { OthersKeepTheirPoints }
 {}
 
-/// A point goes to its owner among all hosts if that is usable, whichever others are out.
+/// A point goes to its owner among all hosts if that is usable.
 pub fn first_choice_stands()
     ensures { FirstChoiceStands }
 {}
 
-/// Owners depend only on a ring's pairs, and not on their order or number.
+/// Owners depend only on a ring's set of pairs.
 pub fn owners_go_by_members()
     ensures { OwnersGoByMembers }
 {}
 
-/// If all hosts weigh the same, each has 40 digests, whatever the weight.
+/// If all hosts weigh the same, each has 40 digests.
 pub fn equal_weights_give_forty()
     ensures { EqualWeightsGiveForty }
 {}
@@ -36,7 +33,7 @@ pub fn digests_are_few()
     ensures { DigestsAreFew }
 {}
 
-/// A host of the greatest weight has at least 40 digests, and so a point.
+/// A heaviest host has at least 40 digests.
 pub fn heaviest_has_forty()
     ensures { HeaviestHasForty }
 {}

@@ -1,9 +1,8 @@
 //! The ring of libketama: which host owns a key.
 //!
-//! Each host has points on a ring of 32-bit numbers, made from the MD5 of its name and a number. A key has one point,
-//! from its own MD5. Its host is that of the first point at or above it; past the last point, that of the first point
-//! of all. With equal weights, hosts, points and owners are those of any other client of libketama that uses MD5 (RFC
-//! 1321). A heavier host has more of the points. It stands on `md5` and `limits`. Begin with `ring.rt`.
+//! A host has points on a ring of 32-bit numbers, and a key has one. Its host is that of the first point at or
+//! above it; past the last, that of the first. With equal weights, owners are those of any other client of
+//! libketama that uses MD5 (RFC 1321). It stands on `md5` and `limits`. Begin with `ring.rt`.
 //!
 //! ```text
 //! let names = [HostName::read(alloc, b"127.0.0.1:7001")?, HostName::read(alloc, b"127.0.0.1:7002")?];

@@ -1,4 +1,3 @@
-//! A host's name.
 ghost use Rattle.std.specs.Prelude.{◌≡◌, ◌↔◌, ◌≤◌, List, length, All, IsTrue, IfOk, OnOk, IsOkUnless, IsErrOf};
 ghost use Rattle.ketama.specs.HostName.{IsHostName};
 
@@ -7,9 +6,7 @@ use limits::MAX_NAME_LEN;
 use std::alloc::Global;
 use std::marker::Model;
 
-/// The name of a host: 1 to 255 visible ASCII characters, such as `127.0.0.1:6379`.
-///
-/// Contracts see it as the list of its bytes.
+/// A host's name: 1 to 255 visible ASCII characters, such as `127.0.0.1:6379`.
 #[derive(Debug, Drop)]
 pub struct HostName {
     bytes: Vec<u8>,
@@ -27,10 +24,7 @@ impl Model for HostName {
 }
 
 impl HostName {
-    /// The name with these bytes.
-    ///
-    /// It must have 1 to 255 bytes from 0x21 to 0x7E; otherwise it is refused with `BadName` (305).
-    /// Without memory for a copy of the bytes it is refused with `NoMemory` (301).
+    /// The name with these bytes. Refused 305 unless they are 1 to 255 from 0x21 to 0x7E, and 301 (no memory).
     pub fn read(alloc: Global, bytes: &[u8]) -> Result<HostName, RingError>
         ensures ok { IfOk result (λ name. name ≡ bytes.now) }
         ensures named { OnOk result (IsHostName bytes.now) }
@@ -44,7 +38,7 @@ impl HostName {
         Ok(HostName { bytes })
     }
 
-    /// The bytes of the name, as they were read.
+    /// Its bytes.
     pub fn as_bytes(&self) -> &[u8]
         ensures value { result.now ≡ self.now }
         ensures name { IsHostName self.now }

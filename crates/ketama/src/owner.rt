@@ -1,13 +1,11 @@
-//! Who owns a point.
 ghost use Rattle.std.specs.Prelude.{◌≡◌, ◌<◌, ◌≤◌, All, AllPairs, if◌then◌else◌, length};
 ghost use Rattle.std.specs.List.Sorted.{IsPartitionPoint};
 ghost use Rattle.ketama.specs.Continuum.{IsBefore};
 ghost use Rattle.ketama.specs.Owner.{IsLeastIfAny, IsUsablePair, IsOwner};
 
-/// A point of a ring, and the number of the host that it belongs to.
+/// A point of a ring, and its host's number.
 pub type Pair = (u32, usize);
 
-/// The usable host that owns the point, by the ring's pairs.
 pub(crate) fn owner(pairs: &[Pair], point: u32, usable: &[bool]) -> Option<usize>
     requires in_range { All (λ pair. pair.1 < length usable.now) pairs.now }
     requires in_order { AllPairs IsBefore pairs.now }
@@ -23,8 +21,7 @@ pub(crate) fn owner(pairs: &[Pair], point: u32, usable: &[bool]) -> Option<usize
     Some(host)
 }
 
-// The number of pairs below the point; these are the first ones. Each turn halves the unknown ones.
-// No jump depends on a point, since it couldn't be predicted.
+// Each turn halves the unknown pairs. No jump depends on a point, since it couldn't be predicted.
 fn count_below(pairs: &[Pair], point: u32) -> usize
     requires { AllPairs IsBefore pairs.now }
     ensures bound { result ≤ length pairs.now }
@@ -42,14 +39,13 @@ fn count_below(pairs: &[Pair], point: u32) -> usize
     below
 }
 
-// The second number if it is wanted, else the first, without a jump.
+// It takes no jump.
 fn one_of(first: usize, second: usize, wants_second: bool) -> usize
     ensures { result ≡ if wants_second then second else first }
 {
     [first, second][usize::from(wants_second)]
 }
 
-// The first of these pairs whose host is usable.
 fn first_usable(pairs: &[Pair], usable: &[bool]) -> Option<Pair>
     requires in_range { All (λ pair. pair.1 < length usable.now) pairs.now }
     requires in_order { AllPairs IsBefore pairs.now }

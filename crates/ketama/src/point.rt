@@ -1,4 +1,3 @@
-//! Points of a digest.
 ghost use Rattle.std.specs.Prelude.{◌≡◌, ◌↔◌, ◌^◌, ◌++◌, ◌<◌, ℕ, IfOk, OnOk, AllPairs, Contains, length, sum};
 ghost use Rattle.md5.specs.Md5.{md5};
 ghost use Rattle.ketama.specs.Point.{point_in};
@@ -12,10 +11,9 @@ use itoa::Buffer;
 use md5::{DIGEST_LEN, Digest, Md5};
 use std::alloc::{AllocError, Global};
 
-/// The number of points of a digest.
 const POINTS_OF_DIGEST: usize = 4;
 
-/// Point `index` of an MD5 digest, from its bytes `4 * index` on, the least significant first.
+/// The least significant byte comes first.
 pub(crate) fn point_at(digest: &[u8; DIGEST_LEN], index: usize) -> u32
     requires { index < 4 }
     ensures { result ≡ point_in digest.now index }
@@ -29,8 +27,6 @@ pub(crate) fn point_at(digest: &[u8; DIGEST_LEN], index: usize) -> u32
     ])
 }
 
-/// The points of all hosts, by their numbers of digests, with the hosts' numbers: in ascending
-/// order, each once.
 pub(crate) fn pairs_of(
     alloc: Global,
     names: &[HostName],
@@ -47,7 +43,7 @@ pub(crate) fn pairs_of(
     Ok(pairs)
 }
 
-/// Sorts pairs by point and then by host, each once.
+/// Sorts by point and then by host, each once.
 pub(crate) fn put_in_order(pairs: &mut Vec<Pair>)
     ensures in_order { AllPairs IsBefore pairs.new.items }
     ensures members { (pair : ℕ × ℕ) → Contains pairs.new.items pair
@@ -57,7 +53,6 @@ pub(crate) fn put_in_order(pairs: &mut Vec<Pair>)
     pairs.dedup();
 }
 
-// The same points host by host.
 fn unordered_pairs(
     alloc: Global,
     names: &[HostName],

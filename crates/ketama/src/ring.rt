@@ -1,4 +1,3 @@
-//! The ring.
 ghost use Rattle.std.specs.Prelude.{◌≡◌, true, ◌↔◌, ◌<◌, ◌≤◌, ◌*◌, List, ℕ, length, All, Any, IfOk, IfSome, IsOkUnless, IsErrOf, IsTrue, Contains};
 ghost use Rattle.ketama.specs.Owner.{is_usable, IsOwner, owner_of};
 ghost use Rattle.ketama.specs.Ketama.{AreWeights, HasSameName, IsKetamaRing};
@@ -14,8 +13,6 @@ use std::alloc::Global;
 use std::marker::Model;
 
 /// A ring: the points of hosts, which are numbered from 0.
-///
-/// Contracts see the number of hosts, the number of digests, and the set of pairs of a point and a host.
 #[derive(Debug, Drop)]
 pub struct Ring {
     hosts: usize,
@@ -40,17 +37,15 @@ impl Model for Ring {
 impl Ring {
     /// The ring of libketama for the hosts with these names and weights.
     ///
-    /// With `n` hosts and the sum of weights `W`, a host of weight `w` has `40 * n * w / W` digests, rounded down: 40
-    /// where all weights are equal. Digest `k`, from 0, of the host with name `s` is the MD5 of the text `s-k`. It
-    /// gives four points of four bytes, the least significant first. A host of little weight may have no point, and
-    /// still counts among the hosts. A ring of no hosts has no points.
+    /// With `n` hosts and the sum of weights `W`, a host of weight `w` has `40 * n * w / W` digests, rounded down.
+    /// Digest `k`, from 0, of host `s` is the MD5 of the text `s-k`, which gives four points, the least significant
+    /// byte first.
     ///
-    /// Refused, in this order: `TooManyHosts` (303) with more than 64 names, `BadWeights` (304) unless each name has a
-    /// weight from 1 to 100, `SameName` (302) if two names are equal, and `NoMemory` (301).
+    /// Refused, in this order: 303 with more than 64 names, 304 unless each has a weight from 1 to 100, 302 if two
+    /// are equal, and 301 (no memory).
     pub fn build(alloc: Global, names: &[HostName], weights: &[u32]) -> Result<Ring, RingError>
         ensures ok { IfOk result (IsKetamaRing names.now weights.now) }
 
-        // The errors, and that there are no others.
         ensures too_many { IsErrOf result RingError.TooManyHosts ↔ (MAX_HOSTS < length names.now) }
         ensures bad_weights { IsErrOf result RingError.BadWeights
             ↔ ((length names.now ≤ MAX_HOSTS) × ¬ AreWeights (length names.now) weights.now) }
@@ -78,10 +73,10 @@ impl Ring {
         })
     }
 
-    /// The ring of these points, each with the number of its host, of `hosts` hosts.
+    /// The ring of these points, each with its host's number.
     ///
-    /// Refused, in this order: `TooManyHosts` (303) with more than 64 hosts, `BadPoint` (306) if a host's number isn't
-    /// below `hosts`, and `NoMemory` (301).
+    /// Refused, in this order: 303 with more than 64 hosts, 306 if a number isn't below `hosts`, and 301 (no
+    /// memory).
     pub fn of_points(
         alloc: Global,
         hosts: usize,
@@ -89,7 +84,6 @@ impl Ring {
     ) -> Result<Ring, RingError>
         ensures ok { IfOk result (IsRingOfPoints hosts points.now) }
 
-        // The errors, and that there are no others.
         ensures too_many { IsErrOf result RingError.TooManyHosts ↔ (MAX_HOSTS < hosts) }
         ensures bad_point { IsErrOf result RingError.BadPoint
             ↔ ((hosts ≤ MAX_HOSTS) × HasBadPoint hosts points.now) }
@@ -111,7 +105,7 @@ impl Ring {
         })
     }
 
-    /// The number of hosts, at most 64. Takes no memory.
+    /// The number of hosts, at most 64.
     pub fn hosts(&self) -> usize
         ensures value { result ≡ self.now.hosts }
         ensures few { result ≤ MAX_HOSTS }
@@ -119,17 +113,15 @@ impl Ring {
         self.hosts
     }
 
-    /// The number of digests of the ring: after `build` those of all its hosts, at most 40 a host; 0 after `of_points`.
-    /// Takes no memory.
+    /// The number of digests; 0 after `of_points`.
     pub fn digests(&self) -> u32
         ensures { result ≡ self.now.digests }
     {
         self.digests
     }
 
-    /// The usable host that owns the point: the host of the least point at or above it, or past the
-    /// last point of the least of all. Of equal points the lower host's counts. `usable` says
-    /// whether each host is usable. `None` exactly if no usable host has a point. Takes no memory.
+    /// The usable host of the least point at or above this one, or past the last point of the least of all. Of
+    /// equal points the lower host's counts. `None` if no usable host has a point.
     pub fn owner(&self, point: u32, usable: &[bool]) -> Option<usize>
         requires { length usable.now ≡ self.now.hosts }
         ensures owner { IsOwner self.now.pairs point usable.now result }

@@ -1,14 +1,12 @@
-//! The number of a host's digests, by its weight.
 ghost use Rattle.std.specs.Prelude.{◌≡◌, ◌<◌, ◌≤◌, ◌^◌, All, IfOk, length, sum};
 ghost use Rattle.ketama.specs.Ketama.{AreWeights, digest_counts};
 
 use limits::MAX_HOSTS;
 use std::alloc::{AllocError, Global};
 
-/// A ring has this many digests for each of its hosts, shared out by weight.
+/// A ring has this many digests for each host, shared out by weight.
 pub const DIGESTS_OF_HOST: u32 = 40;
 
-/// The number of digests of each host, by all weights.
 pub(crate) fn digest_counts(alloc: Global, weights: &[u32]) -> Result<Vec<u32>, AllocError>
     requires few { length weights.now ≤ MAX_HOSTS }
     requires weights { AreWeights (length weights.now) weights.now }
@@ -24,7 +22,6 @@ pub(crate) fn digest_counts(alloc: Global, weights: &[u32]) -> Result<Vec<u32>, 
     Ok(counts)
 }
 
-/// The sum of some numbers.
 pub(crate) fn sum(numbers: &[u32]) -> u32
     requires { sum numbers.now < 2 ^ 32 }
     ensures { result ≡ sum numbers.now }

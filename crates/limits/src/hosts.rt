@@ -1,5 +1,3 @@
-//! Hosts: Redis servers behind the proxy.
-
 /// The most hosts.
 pub const MAX_HOSTS: usize = 64;
 

@@ -1,38 +1,32 @@
-//! A generation: its journal, its gate and its end.
-
 /// The most steps of a journal.
 pub const MAX_STEPS: usize = 262_144;
 
-/// The most bytes of payload of a journal's steps.
+/// The most bytes of their payload.
 pub const MAX_BYTES: u64 = 67_108_864;
 
-/// The most steps of one command: accepting 1,023 parts, sending and answering each, and handing out.
+/// The most steps of one command.
 pub const MAX_COMMAND_STEPS: u64 = 2_048;
 
-/// The most bytes of a reply for which a journal keeps room.
+/// The most bytes of a reply that a journal has room for.
 pub const MAX_REPLY_BYTES: u64 = 8_388_608;
 
 /// The most passes of one gate.
 pub const MAX_PASSES: u64 = 256;
 
-/// At most this many generations have connections at a time: the newest one, and those that drain. Where as many drain
-/// as may, the oldest of them is in the way of the next one.
+/// The most generations with connections at a time. With so many, the oldest is in the way of the next.
 pub const MAX_GENERATIONS: usize = 64;
 
-/// The generation in the way is given up only if no host has answered its commands for this many milliseconds, or the
-/// newest one has been open for `MAX_DRAINING_MS`.
+/// The generation in the way is given up only after this long without a host's answer, or after `MAX_DRAINING_MS`.
 pub const STILL_MS: u64 = 100;
 
-/// The generation in the way may drain until the newest one has been open for this many milliseconds, while hosts answer
-/// its commands and the newest one is near its marks.
+/// The generation in the way may be given up once the newest is open this long.
 pub const MAX_DRAINING_MS: u64 = 1_000;
 
-/// The generation in the way is given up for at least this many milliseconds before it is stopped: its clients are
-/// answered by name, and their sockets go over.
+/// The least time from giving a generation up to stopping it.
 pub const GIVING_UP_MS: u64 = 100;
 
-/// End the server after this many generations in a row could not be opened.
+/// The server ends after this many failed openings of generations in a row.
 pub const MAX_FAILURES: u32 = 1_000;
 
-/// The threads of a generation wait this many milliseconds for each other at its start.
+/// The longest wait of a generation's threads for each other at its start.
 pub const MAX_START_MS: u32 = 1_000;

@@ -1,4 +1,3 @@
-//! How the limits fit together.
 ghost use Rattle.std.specs.Prelude.{◌+◌, ◌*◌, ◌≤◌, ◌<◌, ◌^◌};
 
 use crate::journals::{MAX_BYTES, MAX_COMMAND_STEPS, MAX_REPLY_BYTES, MAX_STEPS};
@@ -6,8 +5,7 @@ use crate::messages::{MAX_BULK, MAX_CLIENT_MEMBERS, MAX_TEXT};
 use crate::queues::{MAX_COMMANDS, MAX_CONNECTIONS, MAX_SOCKETS, MAX_WAITING};
 use crate::workers::{MAX_PARTS_AT_ONCE, MAX_UNSEEN};
 
-/// A journal has room for any command and its reply, and a command's text for a word of any length. Each socket may have
-/// a connection. Workers hold clients back before a host refuses parts. Counts of commands and parts have 16 bits.
+/// A journal has room for any command and its reply. Clients are held back before a host refuses parts.
 pub fn limits_fit()
     ensures steps { 2 * MAX_CLIENT_MEMBERS ≤ MAX_COMMAND_STEPS }
     ensures journal { MAX_COMMAND_STEPS < MAX_STEPS }

@@ -1,7 +1,5 @@
-//! The limits of the proxy: each one constant, in one place.
-//!
-//! A limit stands here whether one crate keeps it or several do. The crates that keep a limit prove it in their own
-//! contracts. It stands on no other crate. Begin with `laws.rt`, which says how limits fit together.
+//! The limits of the proxy. The crates that keep them prove them in their contracts. It stands on no other crate.
+//! Begin with `laws.rt`.
 #![tactic(auto)]
 
 mod hosts;

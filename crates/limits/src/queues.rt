@@ -1,12 +1,10 @@
-//! What is open, and what waits.
-
-/// At most this many clients' sockets are open at a time, in all generations together.
+/// The most open clients' sockets of all generations.
 pub const MAX_SOCKETS: u64 = 4_096;
 
-/// The most connections of one generation that are open at a time.
+/// The most open connections of one generation.
 pub const MAX_CONNECTIONS: usize = 4_096;
 
-/// The most accepted commands of a connection whose replies are not handed out.
+/// The most commands of a connection that are accepted and not handed out.
 pub const MAX_COMMANDS: usize = 1_024;
 
 /// The most parts that wait for a host.

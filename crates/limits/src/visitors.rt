@@ -1,9 +1,7 @@
-//! Visitors of the operator's pages.
-
-/// At most this many visitors are connected. A further one displaces the one that has been idle longest.
+/// The most visitors. One more displaces the one idle longest.
 pub const MAX_VISITORS: usize = 64;
 
-/// Close a visit after this many milliseconds without progress.
+/// The longest visit without progress.
 pub const VISIT_MS: u64 = 10_000;
 
 /// The most bytes of a visitor's head, and of one read.

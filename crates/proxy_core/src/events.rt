@@ -1,5 +1,3 @@
-//! The events: for each kind one file, with its turn.
-
 mod answered;
 mod arrived;
 mod closed;

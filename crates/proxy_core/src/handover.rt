@@ -1,4 +1,3 @@
-//! What a core hands over to the next.
 ghost use Rattle.std.specs.Prelude.{◌≡◌, ◌<◌};
 ghost use Rattle.ejector.specs.Opening.{IsOpening};
 ghost use Rattle.ejector.specs.State.{is_out};
@@ -6,8 +5,7 @@ ghost use Rattle.ejector.specs.State.{is_out};
 use ejector::{EjectState, Rules};
 use std::marker::Model;
 
-/// What a core hands over to the next: the state of outlier detection, the number of hosts, the settings, and the
-/// journal's length.
+/// What a core hands over to the next: the state of outlier detection with its rules, and the journal's length.
 ///
 /// Only `Core::hand_over` makes one.
 pub struct Handover {
@@ -16,7 +14,6 @@ pub struct Handover {
     bytes: u64,
 }
 
-// Written out so that a drop is one call: each function that holds one is proved sooner.
 impl Drop for Handover {
     fn drop(self) {
         let Handover {
@@ -36,7 +33,6 @@ impl Model for Handover {
 }
 
 impl Handover {
-    /// The handover of this state.
     pub(crate) fn new(detection: EjectState, steps: u64, bytes: u64) -> Handover
         ensures { result ≡ record { detection = detection; steps = steps; bytes = bytes } }
     {
@@ -77,7 +73,6 @@ impl Handover {
         self.detection.is_out(host)
     }
 
-    /// The state of outlier detection.
     pub(crate) fn into_detection(self) -> EjectState
         ensures { result ≡ self.detection }
     {

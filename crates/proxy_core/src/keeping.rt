@@ -1,4 +1,3 @@
-//! What a core's journal keeps of its steps.
 ghost use Rattle.std.specs.Prelude.{◌≡◌, Bool, true, false};
 
 /// What a core's journal keeps of its steps: all, or the newest alone.

@@ -1,4 +1,3 @@
-//! The proxy's own values for parts.
 ghost use Rattle.std.specs.Prelude.{◌≡◌};
 ghost use Rattle.resp_core.specs.Value.{tree_of};
 ghost use Rattle.proxy_history.specs.Value.{upstream_failure};

@@ -1,4 +1,3 @@
-//! The core and its state.
 ghost use Rattle.std.specs.Prelude.{◌≡◌, ◌-◌, ◌≤◌, ◌<◌, ◌⊎◌, ◌↔◌, ◌&&◌, Some, None, [], length, IfOk, IfErr, IsErrOf, IsOk, IsTrue, OnOk, OnErr, MatchOption};
 ghost use Rattle.ejector.specs.Settings.{IsInRange, first_difference, first_fault};
 ghost use Rattle.ejector.specs.Opening.{IsOpening};
@@ -49,7 +48,6 @@ pub type Core = CoreOf<Recording>;
 /// A core that keeps its newest step alone. It answers and is refused as `Core` is, but takes no memory for steps.
 pub type CountingCore = CoreOf<Counting>;
 
-// Written out so that a drop is one call: each function that holds one is proved sooner.
 impl<K: Keeping> Drop for CoreOf<K> {
     fn drop(self) {
         let CoreOf {
@@ -83,8 +81,8 @@ impl<K: Keeping> Model for CoreOf<K> {
 impl<K: Keeping> CoreOf<K> {
     /// A core to which nothing has happened.
     ///
-    /// Refused 1011 with the first setting out of its range, or `hosts` where the ring has none. If all are in range,
-    /// it is refused only 1001, for want of memory for the hosts.
+    /// Refused 1011 with the first setting out of its range, or `hosts` where the ring has none; else refused only
+    /// 1001 (no memory).
     pub fn new(alloc: Global, ring: Ring, settings: Settings) -> Result<CoreOf<K>, Refusal>
         ensures made { IfOk result (λ c. (c.setting ≡ setting_of ring settings) × (c.steps ≡ [])) }
         ensures refused { MatchOption (first_fault (setting_of ring settings).rules)
@@ -165,8 +163,8 @@ impl<K: Keeping> CoreOf<K> {
         }
     }
 
-    /// The state that another core can start from: outlier detection after all steps so far, the number of hosts, the
-    /// settings, and the journal's length. It takes no memory.
+    /// The state that another core can start from: outlier detection after all steps so far, and the journal's
+    /// length.
     pub fn hand_over(&self) -> Handover
         ensures rules { result.detection.rules ≡ self.now.setting.rules }
         ensures state { result.detection.state ≡ detector_state self.now }
@@ -201,10 +199,10 @@ impl<K: Keeping> CoreOf<K> {
         self.machine.turn(pass, event)
     }
 
-    /// Takes one event after another, each of its pass. Item `i` of the result is the answer to pair `i`, or its refusal.
+    /// Takes one event after another, each of its pass. Item `i` of the result is the answer to pair `i`, or its
+    /// refusal.
     ///
-    /// Refused 1001 where there is no memory for the answers: no event was taken. A run of no events takes no memory
-    /// and is Ok.
+    /// Refused 1001 where there is no memory for the answers: no event was taken.
     pub fn run(&mut self, pairs: Vec<(u64, Event)>) -> Result<Vec<Result<Answer, Refusal>>, Refusal>
         ensures run { IfOk result
             (λ answers. IsRun self.old.setting (history_in self.old) pairs.items answers.items
@@ -248,8 +246,7 @@ impl<K: Keeping> CoreOf<K> {
         &self.machine.journal
     }
 
-    /// The number of the ring's hosts, 1 to 64; they are numbered from 0. All settings of the core are in range and
-    /// allow its opening state.
+    /// The number of the ring's hosts, 1 to 64.
     pub fn hosts(&self) -> usize
         ensures hosts { result ≡ hosts self.now.setting }
         ensures ring { result ≡ self.now.setting.ring.hosts }
@@ -286,8 +283,8 @@ impl<K: Keeping> CoreOf<K> {
         self.machine.pipelines.flying(host)
     }
 
-    /// The number of the connection to which the host's next reply belongs. `None` if no part flies to it, or if that
-    /// connection is closed.
+    /// The connection to which the host's next reply belongs. `None` if no part flies to it, or if that connection
+    /// is closed.
     pub fn next_owner(&self, host: usize) -> Option<u64>
         requires { host < hosts self.now.setting }
         ensures { result ≡ next_connection
@@ -296,8 +293,8 @@ impl<K: Keeping> CoreOf<K> {
         self.machine.pipelines.next_connection(host)
     }
 
-    /// Whether the connection is open and all parts of its oldest command that isn't handed out have their values.
-    /// Exactly then an event `Handed` for it has no cause of its own to be refused.
+    /// Whether the connection is open and all parts of its oldest command have their values. Exactly then a
+    /// `Handed` for it has no cause of its own to be refused.
     pub fn is_ready(&self, conn: u64) -> bool
         ensures ready { result ≡ (is_open conn (history_in self.now)
             && is_ready conn (past self.now.setting (history_in self.now))) }
@@ -340,7 +337,6 @@ impl<K: Keeping> Recorded for CoreOf<K> {
 
     type Refusal = Refusal;
 
-    // The ring, and the rules of outlier detection with its opening state.
     type Setting = (Ring, EjectState);
 
     type Sight = Handover;
@@ -373,7 +369,6 @@ impl<K: Keeping> Recorded for CoreOf<K> {
     ghost legal_before = { legal_before };
 }
 
-// A journal without steps, which keeps all or the newest alone.
 fn new_journal(alloc: Global, keeps_all: bool) -> Journal<Event, Answer>
     ensures steps { result.steps ≡ [] }
     ensures bytes { result.bytes ≡ 0 }
@@ -403,7 +398,7 @@ pub(crate) struct Machine {
     pub ring: Ring,
     // Its rules are the core's.
     pub ejector: Ejector,
-    // The state of outlier detection before the first step. Only contracts read it, and it takes no bytes.
+    // The state of outlier detection before the first step. Only contracts read it.
     pub opening: Snapshot<Ejector>,
     pub journal: Journal<Event, Answer>,
     pub connections: Connections,
@@ -415,16 +410,13 @@ pub(crate) struct Machine {
 /// The result of an event, before its step is added.
 #[derive(Drop)]
 pub(crate) struct Done {
-    /// The answer.
     pub answer: Answer,
     /// The same answer, for the step.
     pub recorded: Answer,
-    /// The step's bytes of payload.
     pub bytes: u64,
 }
 
 impl Machine {
-    // Takes one event.
     #[inline(always)]
     fn turn(&mut self, pass: u64, event: Event) -> Result<Answer, Refused>
         requires { IsKept self.old }
@@ -454,7 +446,8 @@ impl Machine {
         }
     }
 
-    // Adds an event's step, or returns the event with its refusal. Callers know the kind of the event, so little is moved.
+    // Adds an event's step, or returns the event with its refusal. Callers know the kind of the event, so little is
+    // moved.
     #[inline(always)]
     pub(crate) fn settle(
         &mut self,

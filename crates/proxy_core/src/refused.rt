@@ -1,12 +1,10 @@
-//! A refused event.
-
 use proxy_history::{Event, Refusal};
 
-/// A refused event with its cause; the event comes back as it was given.
+/// A refused event with its cause.
 #[derive(Drop)]
 pub struct Refused {
     /// The cause.
     pub cause: Refusal,
-    /// The event.
+    /// The event, as it was given.
     pub event: Event,
 }

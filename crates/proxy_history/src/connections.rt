@@ -1,4 +1,3 @@
-//! How many connections are open at a time.
 ghost use Rattle.std.specs.Prelude.{◌≡◌};
 
 use limits::MAX_CONNECTIONS;

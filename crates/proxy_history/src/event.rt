@@ -1,5 +1,3 @@
-//! The events of the proxy.
-
 use resp_core::Value;
 use splitter::Request;
 
@@ -28,12 +26,12 @@ pub enum Event {
         /// The request.
         request: Request,
     },
-    /// A connection's input ended: it accepts no later command.
+    /// Its input ended: the connection accepts no later command.
     Finished {
         /// The connection's number.
         conn: u64,
     },
-    /// The oldest part that waits for a host is written to it.
+    /// A host's oldest waiting part is written.
     Taken {
         /// The host's number.
         host: usize,
@@ -42,7 +40,7 @@ pub enum Event {
     Answered {
         /// The host's number.
         host: usize,
-        /// The number of the host's faults before the link was made.
+        /// The host's faults before the link was made.
         epoch: u64,
         /// The reply.
         value: Value,
@@ -53,7 +51,7 @@ pub enum Event {
     Failed {
         /// The host's number.
         host: usize,
-        /// The number of the host's faults before the link was made.
+        /// The host's faults before the link was made.
         epoch: u64,
         /// The fault.
         kind: Kind,
@@ -65,7 +63,7 @@ pub enum Event {
         /// The moment.
         t: u64,
     },
-    /// The reply to the oldest unwritten command of a connection goes to its writer.
+    /// The reply to the connection's oldest unwritten command goes to its writer.
     Handed {
         /// The connection's number.
         conn: u64,

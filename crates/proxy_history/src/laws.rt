@@ -1,4 +1,3 @@
-//! Laws of every legal history.
 ghost use Rattle.proxy_history.specs.Laws.{BeginningsAreLegal, EpochsEndByFaults, FaultsRaiseEpochs, FewAreOut, NoneIsSentTwice, OutcomesStay, OwnersStay, PartsHaveArrived, RepliesAreInOrder, RepliesWereAsked, SentPartsArrived, ValuesAreOwn};
 ghost use Rattle.proxy_history.specs.CauseLaws.{FinishingTakesNothing, NotReadyMeans};
 ghost use Rattle.proxy_history.specs.CommandLaws.{CommandsHaveTheirParts, OutcomesAreAsPlanned};
@@ -14,12 +13,12 @@ pub fn beginnings_are_legal()
     ensures { BeginningsAreLegal }
 {}
 
-/// Each event has an answer of its kind. The proxy's own answer to a request shows whether it finishes the connection.
+/// Each event has an answer of its kind.
 pub fn answers_fit()
     ensures { AnswersFit }
 {}
 
-/// A taken part, a reply and a fault have their host's epoch at that time: the number of its earlier faults.
+/// A taken part, a reply and a fault have their host's epoch at that time.
 pub fn epochs_are_present()
     ensures { EpochsArePresent }
 {}
@@ -29,24 +28,23 @@ pub fn openings_come_first()
     ensures { OpeningsComeFirst }
 {}
 
-/// A connection that was not opened has no steps.
+/// An unopened connection has no steps.
 pub fn unopened_have_no_steps()
     ensures { UnopenedHaveNoSteps }
 {}
 
-/// The meaning of a refusal with its cause. For instance, the connection was never opened or is closed, it finishes, it
-/// has the most unwritten commands, no part waits for the host or flies, or the host has this epoch.
+/// The meaning of a refusal: its cause holds.
 pub fn refusals_mean()
     ensures { RefusalsMean }
 {}
 
-/// Handing out is refused as not ready exactly if the connection is open and has no unwritten command, or the next of
-/// these has no outcome yet.
+/// Handing out is refused as not ready exactly if the connection is open and its next command is missing or has no
+/// outcome yet.
 pub fn not_ready_means()
     ensures { NotReadyMeans }
 {}
 
-/// An open connection that finishes accepts no further command.
+/// A connection that finishes accepts no further command.
 pub fn finishing_takes_nothing()
     ensures { FinishingTakesNothing }
 {}
@@ -56,13 +54,12 @@ pub fn outcomes_stay()
     ensures { OutcomesStay }
 {}
 
-/// Each command has all parts of its plan, in their order. One that the proxy answers itself has none.
+/// Each command has all parts of its plan, in their order.
 pub fn commands_have_their_parts()
     ensures { CommandsHaveTheirParts }
 {}
 
-/// The outcome of a command is the proxy's own answer, or the join of its parts' values. It exists from the moment on
-/// when each part has a value.
+/// A command's outcome is the proxy's own answer, or the join of its parts' values once each has one.
 pub fn outcomes_are_as_planned()
     ensures { OutcomesAreAsPlanned }
 {}
@@ -72,56 +69,54 @@ pub fn replies_are_in_order()
     ensures { RepliesAreInOrder }
 {}
 
-/// Each reply handed out is the outcome of its connection's next command. It had come before, and stays.
+/// Each reply handed out is the outcome of its connection's next command.
 pub fn handed_is_its_outcome()
     ensures { HandedIsItsOutcome }
 {}
 
-/// Each command's reply is handed out by at most one step: the one with as many before it as there are commands before
-/// this one.
+/// Each command's reply is handed out by at most one step.
 pub fn replies_go_out_once()
     ensures { RepliesGoOutOnce }
 {}
 
-/// After a connection's close it has no event, and gets nothing more.
+/// After its close a connection has no event, and gets nothing more.
 pub fn closed_gets_nothing()
     ensures { ClosedGetsNothing }
 {}
 
-/// Each part is the part of its number of a command that arrived. It has for good the host that owned its key at that
-/// time, or `no upstream host` if there was none. It has `proxy busy` exactly if 1,024 parts waited for that host when
-/// its turn within its command came.
+/// Each part is one of a command that arrived. It has for good the host that owned its key at that time, or `no
+/// upstream host`, or `proxy busy` if 1,024 parts waited for that host.
 pub fn parts_have_arrived()
     ensures { PartsHaveArrived }
 {}
 
-/// A part waits for a host exactly if it arrived for it without a value, the host had no fault since, the part wasn't
-/// sent, and its connection isn't closed.
+/// A part waits for a host exactly if it arrived for it without a value, the host had no fault since, the part
+/// wasn't sent, and its connection isn't closed.
 pub fn unsent_parts_wait()
     ensures { UnsentPartsWait }
 {}
 
-/// Parts wait in the order of their arrival, and those of one command in the order of its plan.
+/// Parts wait in the order of their arrival, and those of one command in the plan's.
 pub fn waiting_is_in_order()
     ensures { WaitingIsInOrder }
 {}
 
-/// Each `Taken` sends the first part that waits for its host: its text goes out with the host's epoch and the next place.
+/// Each `Taken` sends the first part that waits for its host.
 pub fn each_taken_sends()
     ensures { EachTakenSends }
 {}
 
-/// Only a `Taken` changes what was sent; to a host in an epoch, only one of this host in this epoch.
+/// Only a `Taken` of a host in an epoch changes what was sent to it in that epoch.
 pub fn nothing_else_is_sent()
     ensures { NothingElseIsSent }
 {}
 
-/// The output to a host in an epoch is the texts of the parts sent to it, one after another.
+/// The output to a host in an epoch is the texts sent to it.
 pub fn upstream_is_what_was_sent()
     ensures { UpstreamIsWhatWasSent }
 {}
 
-/// Each part that was sent is a part that arrived.
+/// Each part sent has arrived.
 pub fn sent_parts_arrived()
     ensures { SentPartsArrived }
 {}
@@ -131,18 +126,18 @@ pub fn none_is_sent_twice()
     ensures { NoneIsSentTwice }
 {}
 
-/// In each epoch at most as many replies of a host came as parts were sent.
+/// In each epoch a host gives at most as many replies as parts were sent.
 pub fn replies_were_asked()
     ensures { RepliesWereAsked }
 {}
 
-/// A part's value is the one that it got at its arrival. Otherwise it is its own host's reply in its own place, or
-/// `upstream failure` if that host had a fault in the part's epoch before that reply. It has no other value, and none before.
+/// A part's value is the one that it got at its arrival, its own host's reply in its own place, or `upstream
+/// failure` if that host had a fault in the part's epoch before that reply.
 pub fn values_are_own()
     ensures { ValuesAreOwn }
 {}
 
-/// An epoch is over exactly if the history has a fault of its host in that epoch.
+/// An epoch is over exactly if its host had a fault in it.
 pub fn epochs_end_by_faults()
     ensures { EpochsEndByFaults }
 {}
@@ -152,24 +147,22 @@ pub fn faults_raise_epochs()
     ensures { FaultsRaiseEpochs }
 {}
 
-/// At most as many hosts are out as the limit allows, from every opening state that keeps it.
+/// At most as many hosts are out as the limit allows.
 pub fn few_are_out()
     ensures { FewAreOut }
 {}
 
-/// A key goes to its owner among all hosts if that is usable, whatever else is out.
+/// A key goes to its owner among all hosts if that is usable.
 pub fn owners_stay()
     ensures { OwnersStay }
 {}
 
-/// Ejections change only the hosts of parts. Whatever outlier detection has seen, each event is refused or answered
-/// alike, except for the hosts of parts and for what the answer says of hosts.
+/// Ejections change only the hosts of parts, and what answers say of hosts.
 pub fn ejections_choose_hosts_alone()
     ensures { EjectionsChooseHostsAlone }
 {}
 
-/// Open connections, unwritten commands of each, parts that wait for a host, and the journal's steps and payload never
-/// pass their limits.
+/// Open connections, unwritten commands, waiting parts, and the journal's steps and payload keep their limits.
 pub fn limits_hold()
     ensures { LimitsHold }
 {}

@@ -1,13 +1,9 @@
-//! The definition of a legal history of the proxy.
+//! The definition of a legal history of the proxy: the list of all its steps, each an event with its answer.
 //!
-//! A history is the list of all steps of the proxy: each event with its answer. This crate has the types of events,
-//! answers and refusals. `specs/` defines what a history determines: the parts of commands and their hosts, and the
-//! parts that wait and that were sent. It also defines which reply belongs to which part, each command's outcome, and
-//! each event's answer or refusal.
-//!
-//! The rules are this project's own profile of Envoy's documentation pages "Redis" and "Outlier detection". A host's
-//! replies come in the order of its requests, as RESP2 says. It stands on `splitter`, `ketama`, `ejector` and
-//! `journal_core`. Begin with `event.rt`, then `specs/Legal.antt`.
+//! `specs/` defines what a history determines, such as each event's answer or refusal. The rules are this project's
+//! own profile of Envoy's pages "Redis" and "Outlier detection". A host's replies come in the order of its
+//! requests, as RESP2 says. It stands on `splitter`, `ketama`, `ejector` and `journal_core`. Begin with `event.rt`,
+//! then `specs/Legal.antt`.
 #![tactic(auto)]
 
 mod answer;

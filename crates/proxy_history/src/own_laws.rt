@@ -1,12 +1,8 @@
-//! Laws of a connection's or a host's own steps, and of both orders of steps.
-//!
-//! A history has the newest step first; a journal, as a pass sees it, the oldest. A connection's steps are its opening
-//! and its events; a host's are its taken parts, its replies and its faults.
+//! Laws of a connection's or a host's own steps. A history has the newest step first, a journal the oldest.
 ghost use Rattle.proxy_history.specs.OwnStepsLaws.{ConnectionStepsTellAll, HostStepsTellAll, OthersLeaveConnections, OthersLeaveHosts};
 ghost use Rattle.proxy_history.specs.SeenStepsLaws.{OrdersHoldTheSame, SeenBeginningsAreLegal, SeenIsReadInOrder, SeenStepsFollow};
 
-/// A connection's own steps determine all of it: its output and requests, the numbers of accepted and handed out
-/// commands, and whether it finishes and is closed.
+/// A connection's own steps determine all of it.
 pub fn connection_steps_tell_all()
     ensures { ConnectionStepsTellAll }
 {}
@@ -16,7 +12,7 @@ pub fn others_leave_connections()
     ensures { OthersLeaveConnections }
 {}
 
-/// A host's own steps determine all of it: its epoch, and what was sent to it and came from it in each epoch.
+/// A host's own steps determine all of it.
 pub fn host_steps_tell_all()
     ensures { HostStepsTellAll }
 {}
@@ -26,13 +22,12 @@ pub fn others_leave_hosts()
     ensures { OthersLeaveHosts }
 {}
 
-/// The journal that a pass sees and its history have the same steps in two orders. Each determines the other; the
-/// journal grows at its end where the history grows at its front.
+/// The journal that a pass sees and its history have the same steps in two orders.
 pub fn orders_hold_the_same()
     ensures { OrdersHoldTheSame }
 {}
 
-/// A seen journal with one more step is legal exactly if it was legal before and the step may follow.
+/// A seen journal with one more step is legal exactly if it was before and the step may follow.
 pub fn seen_steps_follow()
     ensures { SeenStepsFollow }
 {}
@@ -42,8 +37,7 @@ pub fn seen_beginnings_are_legal()
     ensures { SeenBeginningsAreLegal }
 {}
 
-/// The facts of a history can be read in the order in which a pass sees it: output, requests, sent parts, replies, each
-/// count, and whose steps are whose.
+/// A history's facts can be read in the order in which a pass sees it.
 pub fn seen_is_read_in_order()
     ensures { SeenIsReadInOrder }
 {}

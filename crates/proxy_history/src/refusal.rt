@@ -1,4 +1,3 @@
-//! Why an event is refused.
 ghost use Rattle.std.specs.Prelude.{◌≡◌};
 ghost use Rattle.proxy_history.specs.declared.refusal.Refusal.TheVariants.{NoMemory};
 
@@ -24,7 +23,7 @@ pub enum Refusal {
     /// 1005: no part waits for the host.
     #[error("nothing waits")]
     NothingWaiting,
-    /// 1006: the epoch isn't the host's present one.
+    /// 1006: the epoch isn't the host's.
     #[error("not of the present epoch, which is {current}")]
     Stale {
         /// The host's epoch.
@@ -36,7 +35,7 @@ pub enum Refusal {
     /// 1008: there is no unwritten command, or a part of the oldest has no value yet.
     #[error("not ready: {left} commands are left")]
     NotReady {
-        /// The number of the connection's commands accepted and not handed out.
+        /// The connection's commands accepted and not handed out.
         left: u64,
     },
     /// 1009: the connection takes no further command.
@@ -62,7 +61,7 @@ pub enum Refusal {
 impl Refusal {
     ghost use Rattle.proxy_history.specs.Refusal.{number_of};
 
-    /// The number by which the refusal is documented, 1001 to 1013.
+    /// 1001 to 1013.
     pub fn number(self) -> u16
         ensures { result ≡ number_of self }
     {

@@ -1,6 +1,5 @@
-//! What a turn of the core tells the workers of `redproxy serve`: for which hosts parts wait, and to which clients
-//! replies came. It stands on `limits`, and on `crossbeam_utils` for cache lines. Begin with `notices.rt`; what it
-//! decides stands in `place.rt`, `unseen_parts.rt` and `client_place.rt`.
+//! What a turn of the core tells the workers: for which hosts parts wait, and to which clients replies came. It
+//! stands on `limits`, and on `crossbeam_utils` for cache lines. Begin with `notices.rt`.
 #![tactic(auto)]
 
 mod client_place;

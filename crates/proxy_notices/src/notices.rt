@@ -1,4 +1,3 @@
-//! What the workers of a generation are to know of turns.
 ghost use Rattle.std.specs.Prelude.{◌<◌};
 ghost use Rattle.proxy_notices.specs.HostBits.{AreHostsOf};
 
@@ -10,7 +9,6 @@ use limits::MAX_HOSTS;
 use std::alloc::{AllocError, Global};
 use std::sync::atomic::{AtomicU64, Ordering};
 
-// The hosts of the worker at this place: bit h stands for host h.
 fn own_hosts(place: Place) -> u64
     requires { 0 < place.workers }
     ensures { AreHostsOf result place }
@@ -24,20 +22,17 @@ fn own_hosts(place: Place) -> u64
     own
 }
 
-/// What the workers of a generation are to know of turns.
+/// What the workers of a generation are to know of turns. Where a `u64` is a set of hosts, bit h stands for host h.
 ///
-/// The core's turns write it from inside the gate, and each worker takes what concerns it: hosts for which parts came,
-/// and clients to which replies came. Nothing is lost: what was written before
-/// a take is in this take or in an earlier one. More may be told than is so.
+/// The core's turns write it, and each worker takes what concerns it. Nothing is lost. More may be told than is so.
 pub struct Notices {
     workers: Vec<CachePadded<WorkerNotices>>,
     // By the connection's number: the code of its client.
     clients: Vec<AtomicU64>,
-    // Bit h: clients must be held back until the worker of host h has looked at it.
+    // Clients must be held back until the host's worker has looked at it.
     pressed: CachePadded<AtomicU64>,
 }
 
-// Written out so that a drop is one call: each function that holds one is proved sooner.
 impl Drop for Notices {
     fn drop(self) {
         let Notices {
@@ -49,7 +44,7 @@ impl Drop for Notices {
 }
 
 impl Notices {
-    /// Nothing to know, for this many workers. Refused where there is no memory.
+    /// Nothing to know, for this many workers. Refused for want of memory.
     pub fn new(alloc: Global, workers: usize) -> Result<Notices, AllocError> {
         let mut all = Vec::with_capacity(alloc, workers)?;
         for index in 0..workers {
@@ -67,13 +62,11 @@ impl Notices {
         })
     }
 
-    // The slot of a connection.
     fn slot(&self, conn: u64) -> Option<&AtomicU64> {
         self.clients.get((conn % MAX_KEYS as u64) as usize)
     }
 
-    /// The connection has this client of this worker. Where its slot is another's too, replies to both are told to all
-    /// workers from here on.
+    /// The connection has this client. If its slot is another's too, replies to both are told to all workers.
     pub fn add_client(&self, conn: u64, worker: usize, key: usize) {
         if let Some(slot) = self.slot(conn) {
             let code = code_of(worker, key);
@@ -96,7 +89,6 @@ impl Notices {
         }
     }
 
-    // The client of a connection.
     fn place(&self, conn: u64) -> ClientPlace {
         match self.slot(conn) {
             Some(slot) => place_of(slot.load(Ordering::SeqCst)),
@@ -104,7 +96,6 @@ impl Notices {
         }
     }
 
-    // What this worker is to know.
     fn worker(&self, worker: usize) -> Option<&WorkerNotices> {
         match self.workers.get(worker) {
             Some(notices) => Some(&**notices),
@@ -112,7 +103,7 @@ impl Notices {
         }
     }
 
-    /// The oldest command of the connection has its reply: its client is ready.
+    /// The connection's client is ready.
     #[inline(always)]
     pub fn reply_came(&self, conn: u64) {
         match self.place(conn) {
@@ -141,14 +132,14 @@ impl Notices {
         }
     }
 
-    /// Clients must be held back until the host's worker has looked at it.
+    /// Clients must be held back for the host until its worker has looked.
     pub fn press(&self, host: usize) {
         if host < MAX_HOSTS {
             self.pressed.fetch_or(1 << host, Ordering::SeqCst);
         }
     }
 
-    /// Whether the worker has any of these hosts: bit h stands for host h.
+    /// Whether the worker has any of these hosts.
     pub fn has_any_of(&self, worker: usize, hosts: u64) -> bool {
         match self.worker(worker) {
             Some(notices) => notices.own() & hosts != 0,
@@ -156,8 +147,7 @@ impl Notices {
         }
     }
 
-    /// The worker has looked at those of these hosts that are its own: bit h stands for host h. True: clients may have been
-    /// held back for one of them.
+    /// The worker has looked at its own of these hosts. True: clients may have been held back.
     pub fn mark_seen(&self, worker: usize, hosts: u64) -> bool {
         let seen = match self.worker(worker) {
             Some(notices) => notices.own() & hosts,
@@ -166,7 +156,7 @@ impl Notices {
         seen != 0 && self.pressed.fetch_and(!seen, Ordering::SeqCst) & seen != 0
     }
 
-    /// The hosts for which clients must be held back: bit h stands for host h.
+    /// The hosts for which clients must be held back.
     #[inline(always)]
     pub fn pressed(&self) -> u64 {
         self.pressed.load(Ordering::SeqCst)
@@ -181,7 +171,7 @@ impl Notices {
         }
     }
 
-    /// Takes the worker's hosts for which parts came: bit h stands for host h.
+    /// Takes the worker's hosts for which parts came.
     pub fn take_hosts(&self, worker: usize) -> u64 {
         match self.worker(worker) {
             Some(notices) => notices.take_hosts(),
@@ -189,7 +179,7 @@ impl Notices {
         }
     }
 
-    /// Takes whether replies may have come to any client of the worker.
+    /// Takes whether replies may have come to any client.
     pub fn take_all(&self, worker: usize) -> bool {
         match self.worker(worker) {
             Some(notices) => notices.take_all(),
@@ -197,7 +187,7 @@ impl Notices {
         }
     }
 
-    /// Takes ready clients of the worker, whose keys stand in one word. `None`: there are none.
+    /// Takes ready clients of the worker, if any.
     pub fn take_word(&self, worker: usize) -> Option<ReadyWord> {
         match self.worker(worker) {
             Some(notices) => notices.take_word(),

@@ -1,8 +1,7 @@
-//! Which worker has which host.
 ghost use Rattle.std.specs.Prelude.{◌≡◌, ◌↔◌, ◌<◌, IsTrue};
 ghost use Rattle.proxy_notices.specs.Places.{IsOf, worker_of};
 
-/// The worker that has this host, among so many: the host's number modulo the workers.
+/// The worker of this host: the host's number modulo the workers.
 #[inline(always)]
 pub fn worker_of_host(host: usize, workers: usize) -> usize
     requires { 0 < workers }
@@ -14,7 +13,7 @@ pub fn worker_of_host(host: usize, workers: usize) -> usize
 /// A worker's place in its generation.
 #[derive(Clone, Copy, Debug, PartialEq, Eq, Drop)]
 pub struct Place {
-    /// The worker's index, from 0 on.
+    /// The worker's index, from 0.
     pub index: usize,
     /// The number of the generation's workers.
     pub workers: usize,

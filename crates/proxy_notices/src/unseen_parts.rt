@@ -1,26 +1,24 @@
-//! Which of a host's parts its worker may not have seen.
 ghost use Rattle.std.specs.Prelude.{◌≡◌, ◌↔◌, ◌<◌, ◌≤◌, IsTrue};
 ghost use Rattle.std.specs.Bool.{OnTrue, OnFalse};
 ghost use Rattle.proxy_notices.specs.UnseenParts.{grown_to};
 
 use limits::MAX_UNSEEN;
 
-/// The parts of one host: how many wait, and by how many the queue has grown since its worker last took one, or since
-/// clients were last held back for it.
+/// How many parts of one host wait, and how many came since its worker took one or clients were held back.
 #[derive(Clone, Copy, Debug, PartialEq, Eq)]
 pub struct UnseenParts {
-    /// The parts that wait.
+    /// The waiting parts.
     pub waiting: u64,
     /// Those that came since.
     pub unseen: u64,
 }
 
-/// What its worker must know of a host's queue that has changed.
+/// What a worker must know of a host's queue.
 #[derive(Clone, Copy, Debug, PartialEq, Eq)]
 pub struct PartsNews {
     /// Parts wait, and none did before.
     pub begins: bool,
-    /// So many came unseen that clients must be held back until the worker has looked.
+    /// Clients must be held back until the worker has looked.
     pub presses: bool,
 }
 
@@ -31,8 +29,8 @@ impl UnseenParts {
         unseen: 0,
     };
 
-    /// So many parts wait now. Clients must be held back where [`MAX_UNSEEN`](limits::MAX_UNSEEN) or more came unseen; these
-    /// count as seen then.
+    /// So many parts wait now. With [`MAX_UNSEEN`](limits::MAX_UNSEEN) or more unseen, clients must be held back,
+    /// and these count as seen.
     #[inline(always)]
     pub fn wait(&mut self, waiting: u64) -> PartsNews
         ensures waiting { self.new.waiting ≡ waiting }
@@ -51,7 +49,7 @@ impl UnseenParts {
         PartsNews { begins, presses }
     }
 
-    /// The worker took a part, and so many wait now: it sees to the host.
+    /// The worker took a part, and so many wait now.
     #[inline(always)]
     pub fn see(&mut self, waiting: u64)
         ensures waiting { self.new.waiting ≡ waiting }

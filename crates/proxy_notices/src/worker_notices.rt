@@ -1,26 +1,22 @@
-//! What one worker is to know.
-
 use crate::client_place::MAX_KEYS;
 use limits::MAX_HOSTS;
 use std::alloc::{AllocError, Global};
 use std::sync::atomic::{AtomicBool, AtomicU64, Ordering};
 
-// The keys of a word.
 const BITS: usize = 64;
 
 /// The words of all keys.
 pub const MAX_WORDS: usize = MAX_KEYS / BITS;
 
-/// Ready clients whose keys stand in one word of 64.
+/// Ready clients of one word.
 #[derive(Clone, Copy, Debug, PartialEq, Eq)]
 pub struct ReadyWord {
     /// The word's index: its first key divided by 64.
     pub index: usize,
-    /// Bit i is set where the client of its i-th key is ready.
+    /// Bit i: the client of its i-th key is ready.
     pub bits: u64,
 }
 
-/// What a worker is to know, until it takes it.
 #[derive(Drop)]
 pub(crate) struct WorkerNotices {
     // Bit h: host h is the worker's.
@@ -36,7 +32,6 @@ pub(crate) struct WorkerNotices {
 }
 
 impl WorkerNotices {
-    /// Nothing to know, for a worker that has these hosts: bit h stands for host h. Refused where there is no memory.
     pub(crate) fn new(alloc: Global, own: u64) -> Result<WorkerNotices, AllocError> {
         let mut keys = Vec::with_capacity(alloc, MAX_WORDS)?;
         for _ in 0..MAX_WORDS {
@@ -51,12 +46,10 @@ impl WorkerNotices {
         })
     }
 
-    /// The worker's hosts: bit h stands for host h.
     pub(crate) fn own(&self) -> u64 {
         self.own
     }
 
-    /// Whether there is something to know.
     #[inline(always)]
     pub(crate) fn are_any(&self) -> bool {
         self.words.load(Ordering::SeqCst) != 0
@@ -64,14 +57,12 @@ impl WorkerNotices {
             || self.is_for_all.load(Ordering::SeqCst)
     }
 
-    /// Parts came for this host.
     pub(crate) fn add_host(&self, host: usize) {
         if host < MAX_HOSTS {
             self.hosts.fetch_or(1 << host, Ordering::SeqCst);
         }
     }
 
-    /// The client with this key is ready.
     #[inline(always)]
     pub(crate) fn add_key(&self, key: usize) {
         if key >= MAX_KEYS {
@@ -90,12 +81,10 @@ impl WorkerNotices {
         }
     }
 
-    /// Replies may have come to any client.
     pub(crate) fn add_all(&self) {
         self.is_for_all.store(true, Ordering::SeqCst);
     }
 
-    /// Takes the hosts for which parts came: bit h stands for host h.
     pub(crate) fn take_hosts(&self) -> u64 {
         if self.hosts.load(Ordering::SeqCst) == 0 {
             return 0;
@@ -103,12 +92,10 @@ impl WorkerNotices {
         self.hosts.swap(0, Ordering::SeqCst)
     }
 
-    /// Takes whether replies may have come to any client.
     pub(crate) fn take_all(&self) -> bool {
         self.is_for_all.load(Ordering::SeqCst) && self.is_for_all.swap(false, Ordering::SeqCst)
     }
 
-    /// Takes the ready clients of one word. `None`: there are none.
     pub(crate) fn take_word(&self) -> Option<ReadyWord> {
         let words = self.words.load(Ordering::SeqCst);
         if words == 0 {

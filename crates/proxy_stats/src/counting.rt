@@ -1,4 +1,3 @@
-//! Counts over a journal.
 ghost use Rattle.std.specs.Prelude.{◌≡◌, ◌<◌, ◌^◌, true, All, length};
 ghost use Rattle.proxy_stats.specs.Amounts.{ejected_hosts, kept_hosts};
 ghost use Rattle.proxy_stats.specs.Sums.{AreCounts, AreCapped};
@@ -6,8 +5,7 @@ ghost use Rattle.proxy_stats.specs.Sums.{AreCounts, AreCapped};
 use crate::tally::Counts;
 use proxy_core::{Answer, Core, Event, Journal};
 
-/// The counts so far of a core's journal: each number is a sum over its steps. It reads them once,
-/// and takes no memory.
+/// The counts so far of a core's journal, which is read once.
 pub fn counts(core: &Core) -> Counts
     ensures { AreCounts core.now.steps result }
 {

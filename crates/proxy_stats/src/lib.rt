@@ -1,8 +1,7 @@
 //! Counts what a proxy did, by its journal.
 //!
-//! [`counts`] reads the journal of a core once. [`TalliedCore`] is a core that counts as it goes, with
-//! the same result at any time, and tells workers what its turns brought them. [`Counts::plus`]
-//! joins the counts of one core and the next. It stands on `proxy_core` and `proxy_notices`. Begin
+//! [`counts`] reads the journal of a core once. [`TalliedCore`] is a core that counts as it goes, with the same result.
+//! [`Counts::plus`] joins the counts of one core and the next. It stands on `proxy_core` and `proxy_notices`. Begin
 //! with `tally.rt`, then `tallied_core.rt`.
 #![tactic(auto)]
 

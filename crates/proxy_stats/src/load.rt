@@ -1,4 +1,3 @@
-//! The load of a core at one moment: open connections, and the parts of each host.
 ghost use Rattle.std.specs.Prelude.{◌≡◌, ◌<◌};
 ghost use Rattle.proxy_history.specs.Setting.{hosts};
 ghost use Rattle.proxy_history.specs.Proxy.{history_in};
@@ -62,7 +61,7 @@ impl Load {
     };
 }
 
-/// The core's present load. It takes no memory.
+/// The core's present load.
 pub fn load_of<K: Keeping>(core: &CoreOf<K>) -> Load
     ensures { result ≡ load_of core.now.setting (history_in core.now) }
 {

@@ -1,4 +1,3 @@
-//! Adds one step to the counts.
 ghost use Rattle.std.specs.Prelude.{◌≡◌, ◌<◌, ◌^◌, ℕ, if◌then◌else◌, length, slice_index, slice_index_or};
 ghost use Rattle.proxy_stats.specs.Amounts.{takings, replies, failures, lost_parts, ejected_in, kept_in, ejected_hosts, kept_hosts, own_answers, of_host, local_place};
 ghost use Rattle.proxy_stats.specs.Sums.{grown_sum, AreGrown, AreHostsGrown, with_answer, with_event, with_trip};
@@ -9,7 +8,6 @@ use limits::MAX_HOSTS;
 use proxy_core::{Answer, Event, Local, Step, Trip};
 
 impl Counts {
-    /// Adds one step.
     pub(crate) fn add(&mut self, step: &Step<Event, Answer>)
         ensures grown { AreGrown self.old step.now self.new }
         ensures ejected { ejected_hosts step.now < 2 ^ 32 }
@@ -23,7 +21,6 @@ impl Counts {
         add_to_host(&mut self.hosts, step);
     }
 
-    // Adds the event.
     #[inline(always)]
     fn add_event(&mut self, event: &Event)
         ensures { self.new ≡ with_event self.old event.now }
@@ -130,7 +127,6 @@ fn place_of(answer: Local) -> usize
     }
 }
 
-// Adds the step to its host, if it has one.
 fn add_to_host(hosts: &mut [HostCounts; MAX_HOSTS], step: &Step<Event, Answer>)
     ensures same { length hosts.new ≡ length hosts.old }
     ensures grown { (h : ℕ) (d : HostCounts) → h < 64
@@ -148,7 +144,6 @@ fn add_to_host(hosts: &mut [HostCounts; MAX_HOSTS], step: &Step<Event, Answer>)
 }
 
 impl HostCounts {
-    // These counts with a step of this host.
     fn and(&self, step: &Step<Event, Answer>) -> HostCounts
         ensures sent { result.sent ≡ grown_sum self.now.sent (takings step.now) }
         ensures answered { result.answered ≡ grown_sum self.now.answered (replies step.now) }

@@ -17,7 +17,7 @@ use std::marker::Model;
 use std::sync::Arc;
 use ticket_gate::Recorded;
 
-/// A core with its counts, which tells workers what its turns brought them. Contracts see the core.
+/// A core with its counts, which tells workers what its turns brought them.
 pub struct TalliedCore {
     core: CountingCore,
     // On the heap, since a gate moves its state in and out at each turn.
@@ -25,7 +25,6 @@ pub struct TalliedCore {
     teller: Box<Teller>,
 }
 
-// Written out so that a drop is one call: each function that holds one is proved sooner.
 impl Drop for TalliedCore {
     fn drop(self) {
         let TalliedCore {
@@ -36,7 +35,7 @@ impl Drop for TalliedCore {
     }
 }
 
-/// The sight of a core that counts. All of it is of one moment.
+/// The sight of a core that counts, all of one moment.
 #[derive(Drop)]
 pub struct Sight {
     /// The state that another core can start from.
@@ -90,8 +89,7 @@ impl TalliedCore {
         }
     }
 
-    /// The counts so far: each number is a sum over the steps of the core's journal. It takes no
-    /// memory, and its time doesn't depend on the journal's length.
+    /// The counts so far: sums over the steps of the core's journal. Its time doesn't depend on their number.
     pub fn counts(&self) -> &Counts
         ensures sums { AreCounts self.now.steps result.now }
         ensures value { result.now ≡ counts_of self.now.steps }
@@ -169,7 +167,7 @@ fn counts_of_nothing() -> Counts
     Counts::NONE
 }
 
-// The value on the heap. `None`: there is no memory, and it is dropped.
+// `None`: there is no memory, and the value is dropped.
 fn boxed<T: Drop>(alloc: Global, value: T) -> Option<Box<T>>
     ensures { IfSome result (λ b. b.value ≡ value) }
 {
@@ -182,7 +180,6 @@ fn boxed<T: Drop>(alloc: Global, value: T) -> Option<Box<T>>
     }
 }
 
-// Adds the newest step.
 fn count_last(journal: &Journal<Event, Answer>, counts: &mut Counts)
     ensures { (steps : List StepOf) (step : StepOf) → journal.now.steps ≡ steps ++ step ∷ []
         → HasCounted counts.old step counts.new }

@@ -1,4 +1,3 @@
-//! The counts.
 ghost use Rattle.std.specs.Prelude.{◌≡◌, ◌<◌, ◌+◌, ℕ, slice_index, slice_index_or};
 ghost use Rattle.proxy_stats.specs.Sums.{capped_sum, AreJoined, AreHostsJoined};
 ghost use Rattle.proxy_stats.specs.declared.tally.HostCounts.{HostCounts};
@@ -62,7 +61,6 @@ pub struct Counts {
 }
 
 impl HostCounts {
-    /// Nothing happened.
     pub(crate) const NONE: HostCounts = HostCounts {
         sent: 0,
         answered: 0,
@@ -98,7 +96,7 @@ impl Counts {
         hosts: [HostCounts::NONE; MAX_HOSTS],
     };
 
-    /// The sum of these counts and the others; the greatest `u64` stands for any greater number.
+    /// The sum of both counts; the greatest `u64` stands for any more.
     pub fn plus(&self, other: &Counts) -> Counts
         ensures { AreJoined self.now other.now result }
     {

@@ -1,4 +1,3 @@
-//! Tells the workers what turns of the core brought them.
 ghost use Rattle.std.specs.Prelude.{◌≡◌, ◌<◌, ℕ, length, slice_index_or};
 ghost use Rattle.proxy_history.specs.Setting.{hosts};
 ghost use Rattle.proxy_history.specs.Proxy.{history_in};
@@ -18,22 +17,19 @@ pub(crate) enum Concern {
     Parts,
     /// One part less waits for this host.
     Taken(usize),
-    /// A part of this connection's has its reply; `None`: of none that is open.
+    /// `None`: of no connection that is open.
     Reply(Option<u64>),
     /// All parts of this host have their replies.
     Fault(usize),
-    /// Nothing.
     Nothing,
 }
 
-/// Tells workers by their notices.
 #[derive(Drop)]
 pub(crate) struct Teller {
     notices: Arc<Notices>,
     parts: [UnseenParts; MAX_HOSTS],
 }
 
-/// What the event may bring.
 #[inline(always)]
 pub(crate) fn concern_of(core: &CountingCore, event: &Event) -> Concern {
     match event {
@@ -58,7 +54,6 @@ impl Teller {
         }
     }
 
-    /// Tells what a turn brought, after it.
     #[inline(always)]
     pub(crate) fn tell(&mut self, core: &CountingCore, concern: Concern) {
         match concern {
@@ -77,7 +72,6 @@ impl Teller {
         }
     }
 
-    // Tells for which hosts parts wait.
     fn tell_parts(&mut self, core: &CountingCore)
         ensures told { (host : ℕ) (d : UnseenParts) → host < hosts core.now.setting
             → (slice_index_or self.new.parts host d).waiting

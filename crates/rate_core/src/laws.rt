@@ -1,17 +1,14 @@
-//! The meaning of the outlier formula.
-
-// Laws of the definitions, for readers of a contract that cites them.
 ghost use Rattle.std.specs.Prelude.{◌≡◌};
 ghost use Rattle.rate_core.specs.Laws.{FarBelowIsByDeviation, SpreadIsVariance};
 
 use limits::MAX_HOSTS;
 
-/// `n` times the sum of squares, minus the square of the sum, is `n * n` times the variance.
+/// `n` times the sum of squares, minus the squared sum, is `n * n` times the variance.
 pub fn spread_is_variance()
     ensures { SpreadIsVariance }
 {}
 
-/// An outlier is below the mean by more than the factor times the population's standard deviation.
+/// An outlier is below the mean by more than the factor times the standard deviation.
 pub fn far_below_is_by_deviation()
     ensures { FarBelowIsByDeviation }
 {}

@@ -1,7 +1,7 @@
-//! Success rates of hosts, and which of them are outliers.
+//! Success rates of hosts, and which are outliers.
 //!
-//! It follows the success-rate monitor of Envoy's outlier detection, in this project's own profile: whole numbers, no
-//! root, a strict test. Nothing here takes memory. It stands on `limits`. Begin with `outlier.rt`.
+//! It follows Envoy's success-rate monitor, in this project's own profile. It stands on `limits`. Begin with
+//! `outlier.rt`.
 #![tactic(auto)]
 
 mod laws;

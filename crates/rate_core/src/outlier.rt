@@ -1,11 +1,9 @@
-//! Finds outliers among rates.
 ghost use Rattle.std.specs.Prelude.{◌≡◌, ◌<◌, ◌≤◌, length, sum, sum_by, All};
 ghost use Rattle.std.specs.Option.{ForSome};
 ghost use Rattle.rate_core.specs.Outlier.{is_outlier, known_rates, square};
 
 use limits::MAX_HOSTS;
 
-/// The number of known rates, their sum, and the sum of their squares.
 #[derive(Clone, Copy)]
 struct Totals {
     count: u64,
@@ -13,7 +11,6 @@ struct Totals {
     squares: u64,
 }
 
-/// The totals of the known rates.
 fn totals_of(rates: &[Option<u32>]) -> Totals
     requires few { length rates.now ≤ MAX_HOSTS }
     requires within { All (λ rate. ForSome rate (λ r. r ≤ 1000000)) rates.now }
@@ -42,13 +39,8 @@ fn totals_of(rates: &[Option<u32>]) -> Totals
     }
 }
 
-/// Whether the host's rate is below the mean of all rates by more than `factor` thousandths of their (population)
-/// standard deviation. A host without a rate is no outlier.
-///
-/// With `n` known rates, their sum `S`, the sum of their squares `Q`, and the host's rate `r`, the test without a root
-/// is `S > n*r` and `(S - n*r)^2 * 1000000 > factor^2 * (n*Q - S^2)`.
-///
-/// `rates` has each host's rate in millionths: at most 64 of them, each at most 1,000,000. `factor` is at most 100,000.
+/// Whether the host's rate is below the mean by more than `factor` thousandths of the standard deviation. Without a
+/// rate it isn't. `rates` are in millionths.
 pub fn is_outlier(rates: &[Option<u32>], host: usize, factor: u32) -> bool
     requires few { length rates.now ≤ MAX_HOSTS }
     requires within { All (λ rate. ForSome rate (λ r. r ≤ 1000000)) rates.now }

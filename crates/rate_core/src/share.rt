@@ -1,9 +1,7 @@
-//! A host's success rate.
 ghost use Rattle.std.specs.Prelude.{◌≡◌, ◌≤◌, ◌↔◌, IsNone, IfSome};
 ghost use Rattle.rate_core.specs.Rate.{rate_of};
 
-/// The share of good results, in millionths, rounded down: `ok` of `total`, so at most 1,000,000.
-/// None exactly if there are no results.
+/// The share `ok` of `total`, in millionths, rounded down. None if `total` is 0.
 pub fn rate(ok: u32, total: u32) -> Option<u32>
     requires { ok ≤ total }
     ensures value { result ≡ rate_of ok total }

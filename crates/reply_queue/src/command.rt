@@ -1,4 +1,3 @@
-//! A command that waits for its reply.
 ghost use Rattle.std.specs.Prelude.{◌≡◌, ◌↔◌, Some, None, slice_get, IsTrue, IsSome, IfOk, IfErr};
 ghost use Rattle.std.specs.Option.{option_copied, option_map};
 ghost use Rattle.resp_core.specs.Value.{tree_of};
@@ -12,14 +11,12 @@ use std::alloc::{AllocError, Global};
 use std::marker::Model;
 
 /// A command with the values of its parts that have come.
-///
-/// Contracts see how the values are joined, and each part's value, if it has come.
 #[derive(Drop)]
 pub(crate) struct Command {
     parts: Parts,
 }
 
-/// The parts of a command. A command whose only value is the reply takes no memory.
+/// A command whose only value is the reply takes no memory.
 #[derive(Drop)]
 pub(crate) enum Parts {
     Same(Option<Value>),
@@ -42,7 +39,7 @@ impl Model for Command {
 }
 
 impl Command {
-    /// A command of this many parts, none of which has a value. There must be at least one, and exactly one for `Same`.
+    /// There must be at least one part, and exactly one for `Same`.
     pub(crate) fn new(alloc: Global, how: Join, parts: usize) -> Result<Command, AllocError>
         requires { MayJoin how parts }
         ensures { IfOk result (λ command. command ≡ awaiting_command how parts) }
@@ -54,7 +51,6 @@ impl Command {
         Ok(Command { parts })
     }
 
-    /// Whether this part exists and has no value yet.
     pub(crate) fn is_open(&self, part: usize) -> bool
         ensures { IsTrue result ↔ (slice_get self.now.values part ≡ Some None) }
     {
@@ -64,7 +60,6 @@ impl Command {
         }
     }
 
-    /// Gives a part its value; it must have none. It takes no memory.
     pub(crate) fn set(&mut self, part: usize, value: Value)
         requires { slice_get self.old.values part ≡ Some None }
         ensures { self.new ≡ with_value part (tree_of value) self.old }
@@ -75,7 +70,6 @@ impl Command {
         }
     }
 
-    /// Whether each part has a value.
     pub(crate) fn is_complete(&self) -> bool
         ensures { IsTrue result ↔ IsSome (reply_to self.now) }
     {
@@ -85,7 +79,7 @@ impl Command {
         }
     }
 
-    /// The reply, if it is the value of the only part and has come. It takes no memory.
+    /// The reply, if it is the value of the only part and has come.
     pub(crate) fn same_reply(&self) -> Option<&Value>
         ensures { option_map tree_of (option_copied result) ≡ same_reply_to self.now }
     {
@@ -95,7 +89,6 @@ impl Command {
         }
     }
 
-    /// The reply: the join of the parts' values, all of which must have come.
     pub(crate) fn reply(&self, alloc: Global) -> Result<Value, SplitError>
         requires { IsSome (reply_to self.now) }
         ensures value { IfOk result (λ reply. reply_to self.now ≡ Some (tree_of reply)) }

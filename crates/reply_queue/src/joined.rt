@@ -1,4 +1,3 @@
-//! The values of a command that are joined, with those that have come.
 ghost use Rattle.std.specs.Prelude.{◌≡◌, ◌<◌, ◌↔◌, Some, None, length, replicate, slice_get, slice_set, vec_len, IsTrue, IsSome, IfOk, IfErr};
 ghost use Rattle.std.specs.Option.{option_copied, option_map};
 ghost use Rattle.resp_core.specs.Value.{tree_of};
@@ -12,16 +11,12 @@ use std::marker::Model;
 use std::mem;
 
 /// The values of a command's parts that have come, and how they are joined.
-///
-/// Contracts see a command that waits for its reply.
 #[derive(Drop)]
 pub(crate) struct Joined {
     how: Join,
     // Null in the place of a value that hasn't come.
     values: Vec<Value>,
-    // Whether each value has come.
     come: Vec<bool>,
-    // The number of values that haven't.
     missing: usize,
 }
 
@@ -40,7 +35,6 @@ impl Model for Joined {
 }
 
 impl Joined {
-    /// This many parts, none of which has a value. There must be at least one, and exactly one for `Same`.
     pub(crate) fn new(alloc: Global, how: Join, parts: usize) -> Result<Joined, AllocError>
         requires { MayJoin how parts }
         ensures { IfOk result (λ joined. joined ≡ awaiting_command how parts) }
@@ -55,7 +49,6 @@ impl Joined {
         })
     }
 
-    /// Whether this part exists and has no value yet.
     pub(crate) fn is_open(&self, part: usize) -> bool
         ensures { IsTrue result ↔ (slice_get self.now.values part ≡ Some None) }
     {
@@ -65,7 +58,6 @@ impl Joined {
         }
     }
 
-    /// Gives a part its value; it must have none. It takes no memory.
     pub(crate) fn set(&mut self, part: usize, value: Value)
         requires { slice_get self.old.values part ≡ Some None }
         ensures { self.new ≡ with_value part (tree_of value) self.old }
@@ -75,14 +67,12 @@ impl Joined {
         self.missing -= 1;
     }
 
-    /// Whether each part has a value.
     pub(crate) fn is_complete(&self) -> bool
         ensures { IsTrue result ↔ IsSome (reply_to self.now) }
     {
         self.missing == 0
     }
 
-    /// The reply: the join of the parts' values, all of which must have come.
     pub(crate) fn reply(&self, alloc: Global) -> Result<Value, SplitError>
         requires { IsSome (reply_to self.now) }
         ensures value { IfOk result (λ reply. reply_to self.now ≡ Some (tree_of reply)) }
@@ -92,7 +82,6 @@ impl Joined {
     }
 }
 
-// This many nulls.
 fn nulls(alloc: Global, count: usize) -> Result<Vec<Value>, AllocError>
     ensures { IfOk result (λ values. vec_len values ≡ count) }
 {
@@ -103,7 +92,6 @@ fn nulls(alloc: Global, count: usize) -> Result<Vec<Value>, AllocError>
     Ok(values)
 }
 
-// Puts a value into its place, and drops what stood there.
 fn put(values: &mut Vec<Value>, place: usize, value: Value)
     requires { place < vec_len values.old }
     ensures { values.new.items ≡ slice_set values.old.items place value }

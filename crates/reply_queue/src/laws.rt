@@ -1,4 +1,3 @@
-//! Laws of a queue from one call to the next.
 ghost use Rattle.std.specs.Prelude.{◌≡◌};
 ghost use Rattle.reply_queue.specs.Laws.{PartHasItsValue, OtherPartsStay, NewestHasItsIndex, OthersKeepTheirIndex};
 
@@ -10,7 +9,7 @@ pub fn one_part_changes()
     ensures others { OtherPartsStay }
 {}
 
-/// A command has its index from its acceptance on, also while those before it are popped.
+/// A command keeps its index while those before it are popped.
 pub fn indices_stay()
     ensures newest { NewestHasItsIndex }
     ensures others { OthersKeepTheirIndex }

@@ -1,7 +1,6 @@
 //! The commands of one connection that wait for their replies, in their order.
 //!
-//! Replies leave a connection in the order of its commands, while the values of their parts come from several hosts in
-//! any order. A queue keeps each command until it and all before it have all their values. It stands on `splitter`.
+//! A queue keeps each command until it and all before it have all their parts' values. It stands on `splitter`.
 //! Begin with `queue.rt`.
 #![tactic(auto)]
 

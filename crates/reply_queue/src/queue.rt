@@ -1,4 +1,3 @@
-//! The queue of a connection.
 ghost use Rattle.std.specs.Prelude.{◌≡◌, ◌+◌, ◌-◌, ◌^◌, ◌<◌, ◌≤◌, ◌↔◌, [], ◌∷◌, ◌++◌, length, IsTrue, IsSome, OnOk, OnErr, OnSome, IfOk, IfErr, IfNone, IsErrOf};
 ghost use Rattle.std.specs.Option.{option_copied, option_map};
 ghost use Rattle.resp_core.specs.Value.{tree_of};
@@ -15,16 +14,14 @@ use std::alloc::Global;
 use std::collections::VecDeque;
 use std::marker::Model;
 
-/// The commands of one connection that are accepted and not popped, the oldest first.
-///
-/// Contracts see the number popped, and of each command how its values are joined and which have come.
+/// The commands of one connection that are accepted and not popped, the oldest first. Only `accept`, `pop` and
+/// `front` take memory.
 pub struct Queue {
     alloc: Global,
     popped: u64,
     commands: VecDeque<Command>,
 }
 
-// Written out so that a drop is one call: each function that holds one is proved sooner.
 impl Drop for Queue {
     fn drop(self) {
         let Queue {
@@ -53,7 +50,7 @@ impl Model for Queue {
 }
 
 impl Queue {
-    /// An empty queue. The first command gets the index 0.
+    /// An empty queue. The first index is 0.
     pub fn new(alloc: Global) -> Queue
         ensures popped { result.popped ≡ 0 }
         ensures commands { result.commands ≡ [] }
@@ -65,12 +62,11 @@ impl Queue {
         }
     }
 
-    /// Accepts a command of this many parts, whose values will be joined by `how`, and returns its index: the number of
-    /// commands accepted before. It reserves a place for each value. There must be 1 to 4,294,967,295 parts, and
-    /// exactly one for `Same`.
+    /// Accepts a command of 1 to 4,294,967,295 parts, exactly one for `Same`, and returns its index: the number of
+    /// commands accepted before.
     ///
-    /// Refused 802 (crowded) exactly if 1,024 commands are accepted and not popped, else 803 (spent) exactly if the
-    /// index would be the greatest `u64`, else 801 (no memory).
+    /// Refused 802 (crowded) with 1,024 commands accepted and not popped, else 803 (spent) if the index would be
+    /// the greatest `u64`, else 801 (no memory).
     pub fn accept(&mut self, how: Join, parts: usize) -> Result<u64, QueueRefusal>
         requires join { MayJoin how parts }
         requires parts { parts < 2 ^ 32 }
@@ -100,8 +96,7 @@ impl Queue {
         Ok(index)
     }
 
-    /// Whether the command is accepted and not popped, and has this part, counted from 0, without a value yet. It takes
-    /// no memory.
+    /// Whether the command is accepted and not popped, and its part has no value.
     pub fn is_open(&self, command: u64, part: u32) -> bool
         ensures { IsTrue result ↔ IsOpen self.now command part }
     {
@@ -114,7 +109,7 @@ impl Queue {
         }
     }
 
-    /// Gives an open part its value. It takes no memory.
+    /// Gives an open part its value.
     pub fn set_part(&mut self, command: u64, part: u32, value: Value)
         requires { IsOpen self.old command part }
         ensures { self.new ≡ with_part command part (tree_of value) self.old }
@@ -123,7 +118,7 @@ impl Queue {
         self.commands[place].set(part as usize, value);
     }
 
-    /// Whether there is a command and all parts of the oldest have values. It takes no memory.
+    /// Whether there is a command and all parts of the oldest have values.
     pub fn ready(&self) -> bool
         ensures { IsTrue result ↔ IsSome (front_reply self.now.commands) }
     {
@@ -133,7 +128,7 @@ impl Queue {
         }
     }
 
-    /// The number of commands accepted and not popped, at most 1,024. It takes no memory.
+    /// The number of commands accepted and not popped.
     pub fn left(&self) -> usize
         ensures commands { result ≡ length self.now.commands }
         ensures limit { result ≤ MAX_COMMANDS }
@@ -141,10 +136,8 @@ impl Queue {
         self.commands.len()
     }
 
-    /// Removes the oldest command, and returns its reply: the join of its parts' values. `None` exactly if there is no
-    /// command or a part of the oldest has no value.
-    ///
-    /// Refused 801 (no memory), only if there is a reply.
+    /// Removes the oldest command, and returns its reply, the join of its parts' values; `None` if a value is
+    /// missing. Refused 801 (no memory).
     pub fn pop(&mut self) -> Result<Option<Value>, QueueRefusal>
         ensures reply { IfOk result
             (λ reply. option_map tree_of reply ≡ front_reply self.old.commands) }
@@ -161,10 +154,7 @@ impl Queue {
         Ok(reply)
     }
 
-    /// The result that `pop` would have: the reply to the oldest command, or `None` exactly if there is no command or a
-    /// part of the oldest has no value. It changes nothing.
-    ///
-    /// Refused 801 (no memory), only if there is a reply.
+    /// The result that `pop` would have. Refused 801 (no memory).
     pub fn front(&self) -> Result<Option<Value>, QueueRefusal>
         ensures reply { IfOk result
             (λ reply. option_map tree_of reply ≡ front_reply self.now.commands) }
@@ -177,9 +167,7 @@ impl Queue {
         }
     }
 
-    /// The reply to the oldest command, if it is the value of the command's only part (`Same`). `None` exactly if there
-    /// is no command, its values are joined otherwise, or its value hasn't come. It shares nothing, and takes no
-    /// memory.
+    /// The reply to the oldest command, if it is the value of its only part (`Same`).
     pub fn same_front(&self) -> Option<&Value>
         ensures reply { option_map tree_of (option_copied result)
             ≡ same_front_reply self.now.commands }
@@ -190,7 +178,7 @@ impl Queue {
         }
     }
 
-    /// Removes the oldest command. There must be one, and all its parts must have values (`ready`). It takes no memory.
+    /// Removes the oldest command, which must be `ready`.
     pub fn drop_front(&mut self)
         requires { IsSome (front_reply self.old.commands) }
         ensures { self.new ≡ without_front self.old }

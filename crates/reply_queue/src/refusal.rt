@@ -1,4 +1,3 @@
-//! Why a call of a queue is refused.
 ghost use Rattle.std.specs.Prelude.{◌≡◌};
 ghost use Rattle.reply_queue.specs.declared.refusal.QueueRefusal.TheVariants.{NoMemory};
 
@@ -23,7 +22,7 @@ pub enum QueueRefusal {
 impl QueueRefusal {
     ghost use Rattle.reply_queue.specs.Refusal.{number_of};
 
-    /// The number by which the refusal is documented, 801 to 803.
+    /// 801 to 803.
     pub fn number(self) -> u16
         ensures { result ≡ number_of self }
     {

@@ -7,15 +7,14 @@ ghost use Rattle.resp_core.specs.Value.{tree_of};
 use crate::value::{Value, Values};
 use std::alloc::{AllocFailed, Global};
 
-// A list with these members, and the number still due behind the value being read.
 #[derive(Drop)]
 pub(crate) struct Begun {
     pub(crate) members: Values,
     pub(crate) due: u64,
 }
 
-// Puts a value into the innermost list. A complete list goes into the next one, and so on. Returns the outermost value
-// if it is complete. Where memory is refused, lists may have been completed; the error's value is then the last of them.
+// Puts a value into the innermost list. A complete list goes into the next one. Returns the outermost value if it
+// is complete. Where memory is refused, lists may have been completed; the error has the last.
 pub(crate) fn put(opens: &mut Vec<Begun>, value: Value) -> Result<Option<Value>, AllocFailed<Value>>
     ensures due { IfOk result (λ o. IfNone o ((most left : ℕ) (rest : List ℕ)
         → length opens.old.items ≤ left
@@ -56,7 +55,6 @@ pub(crate) fn put(opens: &mut Vec<Begun>, value: Value) -> Result<Option<Value>,
     Ok(Some(value))
 }
 
-// Pushes a list, for which there is room.
 fn put_back(opens: &mut Vec<Begun>, list: Begun)
     requires { vec_len opens.old < vec_capacity opens.old }
     ensures { opens.new.items ≡ opens.old.items ++ list ∷ [] }

@@ -1,4 +1,3 @@
-//! Commands: arrays of bulk strings only, and of at least one.
 ghost use Rattle.std.specs.Prelude.{◌≡◌, ◌<◌, IfSome, IfNone, true, false, length, map};
 ghost use Rattle.resp_core.specs.Value.{tree_of};
 ghost use Rattle.resp_core.specs.Command.{is_command, are_words, is_bulk, payload_of, word, IsArrayOf};
@@ -7,8 +6,8 @@ use crate::payload::Payload;
 use crate::value::{Value, Values};
 
 impl Value {
-    /// The words of a command: an array of bulk strings only, and of at least one. The first word is the command's
-    /// name. `None` for any other value.
+    /// The words of a command, an array of bulk strings only, and of at least one. The first is its name. `None`
+    /// for any other value.
     pub fn words(&self) -> Option<&Values>
         ensures command { IfSome result (λ words. is_command (tree_of self.now) ≡ true
             × are_words words.now ≡ true × IsArrayOf words.now (tree_of self.now)) }
@@ -34,7 +33,6 @@ impl Value {
 }
 
 impl Values {
-    // Whether there is at least one bulk string and nothing else.
     fn are_words(&self) -> bool
         ensures { result ≡ are_words self.now }
     {
@@ -46,8 +44,7 @@ impl Values {
         !self.0.is_empty()
     }
 
-    /// Word `at`; word 0 is the command's name. The values must be the words of a command, as
-    /// `Value::words` returns them, and `at` must be below their number.
+    /// Word `at`; word 0 is the command's name. The values must be those of `Value::words`.
     pub fn word(&self, at: usize) -> &Payload
         requires words { are_words self.now ≡ true }
         requires inside { at < length self.now }

@@ -5,8 +5,8 @@ ghost use Rattle.resp_core.specs.Reading.{of_length, of_integer, digits_at, coun
 
 use crate::error::Refusal;
 
-// How digits are read: the greatest number, and the most digits. Then the refusals of a byte that is no digit, of a
-// digit too many, of a digit that makes the number too great, and of one that does both.
+// The refusals are those of a byte that is no digit, of a digit too many, of one that makes the number too great,
+// and of one that does both.
 #[derive(Clone, Copy, Drop)]
 pub(crate) struct Digits {
     pub(crate) limit: u64,
@@ -17,7 +17,6 @@ pub(crate) struct Digits {
     pub(crate) both: Refusal,
 }
 
-// The digits of a length at most `limit`.
 pub(crate) fn of_length(limit: u64) -> Digits
     ensures { result ≡ of_length limit }
 {
@@ -31,7 +30,6 @@ pub(crate) fn of_length(limit: u64) -> Digits
     }
 }
 
-// The digits of an integer at most `limit`, in at most `most` digits.
 pub(crate) fn of_integer(limit: u64, most: usize) -> Digits
     ensures { result ≡ of_integer limit most }
 {
@@ -45,7 +43,6 @@ pub(crate) fn of_integer(limit: u64, most: usize) -> Digits
     }
 }
 
-// The number with a minus sign.
 pub(crate) fn negated(n: u64) -> i64
     requires { n ≤ 2 ^ 63 }
     ensures { result ≡ neg_ℤ (pos n) }
@@ -53,7 +50,6 @@ pub(crate) fn negated(n: u64) -> i64
     if n == 0 { 0 } else { -((n - 1) as i64) - 1 }
 }
 
-// The number of a digit.
 fn digit_of(byte: u8) -> Option<u64>
     ensures { IfSome result (λ n. (48 ≤ byte) × (byte ≤ 57) × (n ≡ byte - 48)) }
 {
@@ -64,8 +60,8 @@ fn digit_of(byte: u8) -> Option<u64>
     }
 }
 
-// The length of at most four digits that stands at the front with its line end, if it is at most `limit`: the number, and how
-// many bytes it has. Most lengths are such. `None`: it is read a byte at a time.
+// The length of at most four digits at the front with its line end, and how many bytes these have. Most lengths are
+// such. `None`: it is read a byte at a time.
 #[tactic(auto, unfolding(crate::specs::Reading::digits_at, crate::specs::Reading::count_at, crate::specs::Reading::byte_at))]
 #[inline(always)]
 pub(crate) fn short_length(bytes: &[u8], limit: u64) -> Option<(u64, usize)>
@@ -85,7 +81,6 @@ pub(crate) fn short_length(bytes: &[u8], limit: u64) -> Option<(u64, usize)>
     if n <= limit { Some((n, len)) } else { None }
 }
 
-// The same for a length of four digits.
 #[tactic(auto, unfolding(crate::specs::Reading::digits_at, crate::specs::Reading::count_at, crate::specs::Reading::byte_at))]
 fn four_digit_length(bytes: &[u8], limit: u64) -> Option<(u64, usize)>
     ensures inside { IfSome result (λ x. (0 < x.1) × (x.1 ≤ length bytes.now) × (x.0 ≤ limit)) }
@@ -99,7 +94,6 @@ fn four_digit_length(bytes: &[u8], limit: u64) -> Option<(u64, usize)>
     if n <= limit { Some((n, 6)) } else { None }
 }
 
-// The digits' number with one more digit, or `None` at their end.
 #[tactic(auto, unfolding(crate::specs::Reading::digits_at))]
 pub(crate) fn step_digits(
     digits: Digits,

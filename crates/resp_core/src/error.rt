@@ -1,11 +1,9 @@
-//! Why a call is refused.
 ghost use Rattle.std.specs.Prelude.{◌≡◌, ◌≢◌};
 ghost use Rattle.resp_core.specs.declared.error.RespError.TheVariants.{NoMemory};
 
 use std::alloc::{AllocError, AllocFailed};
 use thiserror::Error;
 
-/// Why a byte of the stream is refused, without its offset.
 #[derive(Clone, Copy, Drop)]
 pub(crate) enum Refusal {
     BadType,
@@ -19,7 +17,6 @@ pub(crate) enum Refusal {
 impl Refusal {
     ghost use Rattle.resp_core.specs.Offset.{offset_of, number_of, refusal_number};
 
-    /// The refusal of the byte at this offset of the stream.
     pub(crate) fn at(self, at: u64) -> RespError
         ensures offset { offset_of result ≡ at }
         ensures number { number_of result ≡ refusal_number self }
@@ -38,33 +35,31 @@ impl Refusal {
 
 /// Why a call is refused.
 ///
-/// `at` is the offset of the refused byte, counted from 0 at the first byte of the stream; the greatest `u64` stands
-/// for any more.
+/// `at` is the offset of the refused byte in the stream, from 0; the greatest `u64` stands for any more.
 #[derive(Clone, Copy, Debug, PartialEq, Eq, Drop, Error)]
 pub enum RespError {
-    /// 101: memory was refused. The call changed nothing and may be made again.
+    /// 101: memory was refused. Nothing has changed.
     #[error("out of memory")]
     NoMemory,
     /// 102: a value is due, and the byte is none of `+`, `-`, `:`, `$` and `*`.
     #[error("byte {at}: no type byte")]
     BadType { at: u64 },
-    /// 103: in the length of a bulk string or an array, a byte that is no digit, `-` or CR in its place, a CR with no
-    /// digit before it, a `-` that is not followed by `1` and CR, or an eleventh digit.
+    /// 103: in a length, a byte that is no digit, `-` or CR in its place, a CR without a digit, a `-` without `1`
+    /// and CR, or an eleventh digit.
     #[error("byte {at}: no length")]
     BadLength { at: u64 },
-    /// 104: in the line of an integer, a byte that is no sign, digit or CR in its place, a CR with no digit before it, or
-    /// a digit with which the number leaves the signed 64-bit range.
+    /// 104: in an integer, a byte that is no sign, digit or CR in its place, a CR without a digit, or a digit that
+    /// leaves the signed 64-bit range.
     #[error("byte {at}: no integer")]
     BadNumber { at: u64 },
-    /// 105: an LF in the line of a simple string or an error, a byte other than LF after CR, or a byte other than CR
-    /// after the bytes of a bulk string.
+    /// 105: an LF in a simple string or an error, a byte other than LF after CR, or a byte other than CR after a
+    /// bulk string.
     #[error("byte {at}: a line that does not end with CR and LF")]
     BadLineEnd { at: u64 },
-    /// 106: a digit with which a length passes its limit, a byte that makes a line too long, or byte 8,388,609 of a
-    /// value.
+    /// 106: a digit with which a length passes its limit, a byte too many in a line, or byte 8,388,609 of a value.
     #[error("byte {at}: longer than the limit")]
     TooLong { at: u64 },
-    /// 107: the `*` of a ninth array, each within the one before.
+    /// 107: the `*` of a ninth nested array.
     #[error("byte {at}: an array nested too deep")]
     TooDeep { at: u64 },
 }
@@ -72,7 +67,7 @@ pub enum RespError {
 impl RespError {
     ghost use Rattle.resp_core.specs.Offset.{number_of};
 
-    /// The number by which the refusal is documented, 101 to 107.
+    /// 101 to 107.
     pub fn number(self) -> u16
         ensures { result ≡ number_of self }
     {

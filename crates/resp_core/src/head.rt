@@ -10,7 +10,6 @@ use crate::value::Value;
 use bytes::Bytes;
 use limits::{MAX_BULK, MAX_LINE};
 
-// The value that a length belongs to.
 #[derive(Clone, Copy, Drop)]
 pub(crate) enum Sized {
     Bulk,
@@ -18,7 +17,6 @@ pub(crate) enum Sized {
 }
 
 impl Sized {
-    // The greatest length, where a list has at most `most` members.
     fn limit(self, most: u64) -> u64
         ensures { result ≡ limit_of most self }
     {
@@ -28,7 +26,6 @@ impl Sized {
         }
     }
 
-    // What a length announces.
     fn found(self, n: u64) -> Found
         ensures { result ≡ found_of self n }
     {
@@ -39,7 +36,6 @@ impl Sized {
     }
 }
 
-// The value that a line of text belongs to.
 #[derive(Clone, Copy, Drop)]
 pub(crate) enum Line {
     Simple,
@@ -47,7 +43,6 @@ pub(crate) enum Line {
 }
 
 impl Line {
-    // The value with this text.
     pub(crate) fn value(self, text: Bytes) -> Value
         ensures { tree_of result ≡ line_tree self text }
     {
@@ -58,14 +53,11 @@ impl Line {
     }
 }
 
-// The value or the rest that a head announces.
 #[derive(Clone, Copy, Drop)]
 pub(crate) enum Found {
-    // A text and a line end.
+    // A text, and its end.
     Line(Line),
-    // This many bytes and a line end.
     Payload(u64),
-    // This many values.
     Members(u64),
     NullBulk,
     NullList,
@@ -75,29 +67,23 @@ pub(crate) enum Found {
 // The place in a head where the next byte stands.
 #[derive(Clone, Copy, Drop)]
 pub(crate) enum Head {
-    // The type byte.
     Type,
-    // The first byte of a length.
     Length(Sized),
     // Behind the minus sign of a null: 1, then CR.
     One(Sized),
     Return(Sized),
-    // Behind `count` digits of a length, whose number is `n`.
     Digits {
         sized: Sized,
         count: usize,
         n: u64,
     },
-    // The first byte of an integer.
     Sign,
-    // Behind `count` of at most `most` digits of an integer, whose number is `n`.
     Number {
         is_negative: bool,
         most: usize,
         count: usize,
         n: u64,
     },
-    // LF, which completes this.
     Feed(Found),
 }
 
@@ -107,7 +93,6 @@ pub(crate) enum Next {
     Found(Found),
 }
 
-// The head after a type byte.
 #[tactic(auto, unfolding(crate::specs::Reading::value_at, crate::specs::Reading::leaf_at, crate::specs::Reading::byte_at, crate::specs::Reading::list_at, crate::specs::Reading::bulk_at))]
 fn step_type(byte: u8, most: u64, left: u32) -> Result<Next, Refusal>
     ensures steps { Steps most left Head.Type byte result }
@@ -179,7 +164,6 @@ fn step_number(
     }
 }
 
-// The head after the first byte of an integer: a sign, or a digit.
 #[tactic(auto, unfolding(crate::specs::Reading::integer_at))]
 fn step_sign(byte: u8, most: u64, left: u32) -> Result<Next, Refusal>
     ensures steps { Steps most left Head.Sign byte result }
@@ -202,7 +186,6 @@ fn step_sign(byte: u8, most: u64, left: u32) -> Result<Next, Refusal>
     }
 }
 
-// The null of a length.
 #[tactic(auto, unfolding(crate::specs::Reading::payload_at, crate::specs::Reading::members_at))]
 fn null_of(sized: Sized) -> Found
     ensures { IsNullOf sized result }
@@ -213,7 +196,6 @@ fn null_of(sized: Sized) -> Found
     }
 }
 
-// The head after one more byte.
 #[tactic(auto, unfolding(crate::specs::Reading::byte_at, crate::specs::Reading::null_end_at, crate::specs::Reading::count_at))]
 pub(crate) fn step(head: Head, byte: u8, most: u64, left: u32) -> Result<Next, Refusal>
     requires good { IsGoodHead most left head }
@@ -261,7 +243,7 @@ pub(crate) fn step(head: Head, byte: u8, most: u64, left: u32) -> Result<Next, R
     }
 }
 
-// What a whole head with a length of up to three digits announces, and how many bytes it has. Most heads are such. `None`: it
+// What a whole head with a length of up to three digits announces, and its bytes. Most heads are such. `None`: it
 // is read a byte at a time.
 #[inline(always)]
 fn short_found(bytes: &[u8], most: u64, left: u32) -> Option<(Found, usize)>
@@ -282,7 +264,6 @@ fn short_found(bytes: &[u8], most: u64, left: u32) -> Option<(Found, usize)>
     None
 }
 
-// The length of a payload of which such a head stands at the front, and how many bytes that has.
 #[inline(always)]
 pub(crate) fn short_bulk(bytes: &[u8], most: u64, left: u32) -> Option<(u64, usize)>
     ensures inside { IfSome result (λ x. (0 < x.1) × (x.1 ≤ length bytes.now)) }
@@ -301,7 +282,6 @@ pub(crate) fn short_bulk(bytes: &[u8], most: u64, left: u32) -> Option<(u64, usi
     }
 }
 
-// The same behind the type byte.
 #[inline(always)]
 fn short_sized(sized: Sized, bytes: &[u8], most: u64, left: u32) -> Option<(Found, usize)>
     requires good { IsGoodSized left sized }
@@ -314,7 +294,6 @@ fn short_sized(sized: Sized, bytes: &[u8], most: u64, left: u32) -> Option<(Foun
     Some((sized.found(n), len))
 }
 
-// Why a head can't go on: the byte at this place is refused.
 pub(crate) struct RefusedByte(pub(crate) Refusal, pub(crate) usize);
 
 // Reads a head as far as it has come. Returns what it came to, and the number of bytes read.

@@ -1,4 +1,4 @@
-//! Laws of texts and streams. Each is the contract of a function that does nothing; its users call it.
+//! Laws of texts and streams.
 ghost use Rattle.std.specs.Prelude.{◌≡◌};
 ghost use Rattle.resp_core.specs.Laws.{NoTextBeginsAnother, TextIsRead, SpellingIsShortest, ShortestTextIsSpelling, ReadValuesArePlain, CommandsArePlain, OneReading, EachStreamHolds, OneHolding, RefusalStays, OneRefusedByte, OneNumber, OneRefusal, ValuesStay, TextIsReadBack, TextIsReadNext, ValuesGoOn};
 
@@ -8,22 +8,22 @@ use crate::reader::Limits;
 use crate::texts::MAX_TEXT_BLOCK;
 use limits::{MAX_CLIENT_MEMBERS, MAX_HOST_MEMBERS};
 
-/// No text begins another, so a stream can be read without looking ahead.
+/// No text begins another, so reading needs no look ahead.
 pub fn no_text_begins_another()
     ensures { NoTextBeginsAnother }
 {}
 
-/// The one spelling of a plain value within the limits is a text of it.
+/// The one spelling of a plain value within the limits is read as it.
 pub fn text_is_read()
     ensures { TextIsRead }
 {}
 
-/// No text of a value is shorter than its one spelling, so a value that is written again is no longer than it came.
+/// No text of a value is shorter than its one spelling.
 pub fn spelling_is_shortest()
     ensures { SpellingIsShortest }
 {}
 
-/// A text of a value that is as long as its one spelling is that spelling, so such a value can be sent on as it came.
+/// A text that is as long as the one spelling is that spelling, so the value can be sent on as it came.
 pub fn shortest_text_is_spelling()
     ensures { ShortestTextIsSpelling }
 {}
@@ -38,14 +38,13 @@ pub fn commands_are_plain()
     ensures { CommandsArePlain }
 {}
 
-/// The one spelling of a plain value within the limits is read back as that value, whatever follows it: at the front of
-/// a stream and behind other values.
+/// The one spelling of a plain value within the limits is read back as it, whatever stands before and behind.
 pub fn text_is_read_back()
     ensures front { TextIsReadBack }
     ensures next { TextIsReadNext }
 {}
 
-/// A stream has one list of values. Any other way to split it gives a beginning of that list.
+/// A stream has one list of values; any other split gives a beginning of it.
 pub fn one_reading()
     ensures { OneReading }
 {}
@@ -77,8 +76,7 @@ pub fn values_stay()
     ensures { ValuesStay }
 {}
 
-/// A stream cut behind some of its values goes on as the rest: its values are those before the cut, and then those of
-/// the rest with whatever follows.
+/// A stream cut behind some of its values goes on as the rest.
 pub fn values_go_on()
     ensures { ValuesGoOn }
 {}
@@ -89,9 +87,8 @@ pub fn members_are_limited()
     ensures host { (MAX_HOST_MEMBERS ≡ 65536) × (Limits.HOST.array ≡ MAX_HOST_MEMBERS) }
 {}
 
-/// Limits of memory kept besides the values. A payload that shares its buffer keeps at most eight times its bytes. A
-/// reader without a pending byte keeps a buffer of at most 32,768 bytes. Short texts share blocks of at most 512 bytes
-/// where they were read, and of 16,384 where they were written.
+/// A payload that shares its buffer keeps at most eight times its bytes. An idle reader's buffer has at most
+/// 32,768. Short texts share blocks of at most 512 bytes where they were read, and of 16,384 where written.
 pub fn kept_memory_is_limited()
     ensures payload { MAX_KEPT ≡ 8 }
     ensures idle { MAX_IDLE ≡ 32768 }

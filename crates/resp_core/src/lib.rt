@@ -1,9 +1,9 @@
 //! RESP2, the Redis serialization protocol, read and written.
 //!
 //! `Reader` reads the values of a stream that comes in any pieces. `put_text` writes a value in its one spelling.
-//! Reading is lenient: it accepts signs and leading zeros of integers, and leading zeros of lengths. The protocol's
-//! specification is the source; the limits, and the offsets and numbers of refusals, are this project's own. It stands
-//! on `bytes`. Begin with `value.rt`, then `reader.rt`.
+//! Reading accepts signs of integers, and leading zeros. The protocol's specification is the source; limits, and
+//! offsets and numbers of refusals, are this project's own. It stands on `bytes`. Begin with `value.rt`, then
+//! `reader.rt`.
 #![tactic(auto)]
 
 mod begun;

@@ -1,4 +1,3 @@
-//! Reading a part of a value from the front of bytes.
 ghost use Rattle.std.specs.Prelude.{[], Some};
 ghost use Rattle.resp_core.specs.ReadingAnswers.{Gives};
 ghost use Rattle.resp_core.specs.SeenBytes.{IsSeen};
@@ -8,7 +7,6 @@ ghost use Rattle.resp_core.specs.Reading.{byte_at, end_at, text_at, payload_at};
 use crate::error::Refusal;
 use limits::MAX_LINE;
 
-// Why nothing complete was read.
 #[derive(Drop)]
 pub(crate) enum Stop<'a> {
     Unfinished,
@@ -16,7 +14,6 @@ pub(crate) enum Stop<'a> {
     Refused(Refusal, &'a [u8]),
 }
 
-// Takes this byte.
 #[tactic(auto, unfolding(crate::specs::Reading::byte_at))]
 fn take_byte<'a>(bytes: &'a [u8], byte: u8, refusal: Refusal) -> Result<&'a [u8], Stop<'a>>
     ensures { Gives (λ x. tt) (λ x. x.now) result (byte_at byte (λ _. refusal) bytes.now) }
@@ -31,7 +28,6 @@ fn take_byte<'a>(bytes: &'a [u8], byte: u8, refusal: Refusal) -> Result<&'a [u8]
     }
 }
 
-// Takes CR and LF.
 #[tactic(auto, unfolding(crate::specs::Reading::end_at))]
 fn take_end(bytes: &[u8]) -> Result<&[u8], Stop<'_>>
     ensures { Gives (λ x. tt) (λ x. x.now) result (end_at bytes.now) }
@@ -62,7 +58,6 @@ pub(crate) fn take_text(bytes: &[u8], seen: usize) -> Result<(&[u8], &[u8]), Sto
     Err(Stop::Unfinished)
 }
 
-// Takes the bytes of a payload, and its line end.
 #[tactic(auto, unfolding(crate::specs::Reading::payload_at, crate::specs::Reading::bytes_at))]
 pub(crate) fn take_payload(bytes: &[u8], n: u64) -> Result<(&[u8], &[u8]), Stop<'_>>
     ensures { Gives (λ x. bulk x.0.now) (λ x. x.1.now) result (payload_at (Some n) bytes.now) }

@@ -29,15 +29,14 @@ const MAX_RESERVED: usize = 16;
 // The most bytes of a buffer that is kept while no byte is pending.
 pub(crate) const MAX_IDLE: usize = 32_768;
 
-// Why no value was read: memory ran out, or the byte at this place of the value is refused.
 #[derive(Drop)]
 pub(crate) enum Halt {
     NoMemory,
     Refused(Refusal, usize),
 }
 
-// What came of the next complete value: it is the outermost one or its last member; there is more to read; or there is none, and
-// nothing has changed.
+// What came of the next value: it is the outermost one or its last member; there is more to read; or nothing has
+// changed.
 #[derive(Drop)]
 enum Word {
     Last(Value),
@@ -47,11 +46,11 @@ enum Word {
 
 #[derive(Drop)]
 pub(crate) struct PartialValue {
-    // Bytes fed and not taken, from the next byte of a head on, or from the first one of a text or a payload.
+    // They begin with the next byte of a head, or the first of a text or payload.
     pub(crate) pending: Pending,
     // The most bytes for which there was room since nothing was pending.
     pub(crate) room: usize,
-    // The open lists, the outermost first.
+    // The outermost first.
     pub(crate) opens: Vec<Begun>,
     // A complete value that isn't in its list yet.
     pub(crate) done: Option<Value>,
@@ -60,11 +59,11 @@ pub(crate) struct PartialValue {
     pub(crate) seen: usize,
     // The bytes of the value that were taken.
     pub(crate) came: usize,
-    // Nothing is read while fewer bytes are pending: the length of the payload that is due, 0 if none is known.
+    // Nothing is read while fewer bytes are pending; 0 if the payload's length isn't known.
     pub(crate) needed: usize,
 }
 
-// The refusal to report at this place of a value: at the byte that makes the value too long, none with a higher number.
+// At the byte that makes the value too long, no higher number is told.
 fn told_at(refusal: Refusal, place: usize) -> Refusal
     ensures { ((refusal ≡ TooDeep) × (place ≡ max_text) × (result ≡ TooLong))
         ⊎ ((place ≡ max_text → refusal ≢ TooDeep) × (result ≡ refusal)) }
@@ -76,7 +75,6 @@ fn told_at(refusal: Refusal, place: usize) -> Refusal
 }
 
 impl PartialValue {
-    // Before any byte.
     pub(crate) fn new(alloc: Global) -> PartialValue
         ensures good { (most : ℕ) → IsGood most result }
         ensures reads { (most : ℕ) → Reads most [] result }
@@ -93,7 +91,7 @@ impl PartialValue {
         }
     }
 
-    // Whether a payload is due and hasn't come completely; then there is no complete value.
+    // Whether a payload is due and hasn't come completely.
     pub(crate) fn is_short(&self) -> bool
         ensures { result ≡ true → (most : ℕ) → IsGood most self.now → (held : List ℕ)
             → Reads most held self.now → IsUnfinished most held }
@@ -109,7 +107,6 @@ impl PartialValue {
         self.came as u64 + self.pending.len() as u64
     }
 
-    // Adds bytes behind those pending.
     pub(crate) fn feed(&mut self, piece: &[u8]) -> Result<(), AllocError>
         ensures good { (most : ℕ) → IsGood most self.old → IsGood most self.new }
         ensures reads { OnOk result ((most : ℕ) (held : List ℕ) → Reads most held self.old
@@ -119,7 +116,6 @@ impl PartialValue {
         self.pending.feed(piece)
     }
 
-    // Notes the room for bytes, before any are taken.
     fn note_room(&mut self)
         ensures good { (most : ℕ) → IsGood most self.old → IsGood most self.new }
         ensures same { shown_progress self.new ≡ shown_progress self.old }
@@ -127,7 +123,7 @@ impl PartialValue {
         self.room = self.room.max(self.pending.capacity());
     }
 
-    // Drops what is only kept for further bytes, if no byte is pending: copies, and a large buffer.
+    // Drops what is kept for further bytes, if none is pending.
     fn give_back(&mut self)
         ensures good { (most : ℕ) → IsGood most self.old → IsGood most self.new }
         ensures same { shown_progress self.new ≡ shown_progress self.old }
@@ -142,7 +138,6 @@ impl PartialValue {
         }
     }
 
-    // Forgets everything.
     pub(crate) fn begin_anew(&mut self, alloc: Global)
         ensures good { (most : ℕ) → IsGood most self.new }
         ensures reads { (most : ℕ) → Reads most [] self.new }
@@ -186,8 +181,7 @@ impl PartialValue {
         }
     }
 
-    // The outermost value and the length of its text, if no byte of it was taken and it is a short command in its one
-    // spelling that has come completely. `None`: nothing has changed.
+    // The same, if it is a short command in its one spelling. `None`: nothing has changed.
     pub(crate) fn next_spelled(
         &mut self,
         most: u64,
@@ -211,7 +205,6 @@ impl PartialValue {
         Ok(Some((SpelledCommand::from_text(text), len)))
     }
 
-    // Whether no byte of the value was taken.
     fn is_fresh(&self) -> bool
         ensures { result ≡ true → IsFresh self.now × (self.now.came ≡ 0) }
     {
@@ -224,7 +217,6 @@ impl PartialValue {
         self.came == 0 && self.done.is_none() && self.opens.is_empty()
     }
 
-    // Reads to the end of the outermost value, or as far as the bytes go.
     fn go_on(&mut self, alloc: Global, most: u64) -> Result<Option<Value>, Halt>
         requires good { IsGood most self.old }
         ensures good { IsGood most self.new }
@@ -249,7 +241,6 @@ impl PartialValue {
         }
     }
 
-    // Puts the next complete value into its list, and closes the lists that it completes.
     #[inline(always)]
     fn put_next(&mut self, most: u64) -> Result<Word, AllocError>
         requires good { IsGood most self.old }
@@ -271,8 +262,8 @@ impl PartialValue {
         }
     }
 
-    // Takes the complete value that isn't in its list yet, or else a bulk string with a short head that comes next. Most words
-    // of commands are such. `None`: nothing has changed.
+    // Takes the complete value that isn't in its list yet, or else a bulk string with a short head. `None`: nothing
+    // has changed.
     #[inline(always)]
     fn take_value(&mut self, most: u64) -> Result<Option<Value>, AllocError>
         requires good { IsGood most self.old }
@@ -295,8 +286,7 @@ impl PartialValue {
         }
     }
 
-    // Takes a bulk string with a short head in its one spelling, if it comes next and has come completely. Its payload lies in
-    // its text. `None`: nothing has changed.
+    // Takes a bulk string with a short head in its one spelling. `None`: nothing has changed.
     #[inline(always)]
     fn take_word(&mut self, most: u64) -> Result<Option<Payload>, AllocError>
         requires good { IsGood most self.old }
@@ -335,7 +325,7 @@ impl PartialValue {
         Ok(Some(Payload::in_text(head as u8, text)))
     }
 
-    // Reads a head and what it announces, or what the last head announced. True: that has come completely.
+    // True: what the last head or this one announced has come completely.
     fn turn(&mut self, alloc: Global, most: u64) -> Result<bool, Halt>
         requires good { IsGood most self.old }
         requires done { self.old.done ≡ None }
@@ -351,7 +341,6 @@ impl PartialValue {
         }
     }
 
-    // What the last head announced, or what the next one announces if its end came.
     fn go_on_to_found(&mut self, most: u64) -> Result<Option<Found>, Halt>
         requires good { IsGood most self.old }
         requires done { self.old.done ≡ None }
@@ -369,7 +358,6 @@ impl PartialValue {
         }
     }
 
-    // Reads a head to its end, or as far as the bytes go. Returns what it announces if its end came.
     fn go_on_in_head(&mut self, head: Head, most: u64) -> Result<Option<Found>, Halt>
         requires good { IsGood most self.old }
         requires head { (self.old.done ≡ None) × (self.old.next ≡ Next.Head head) }
@@ -398,7 +386,7 @@ impl PartialValue {
         }
     }
 
-    // Takes what a head announced. True: it has come completely.
+    // True: it has come completely.
     fn take_found(&mut self, alloc: Global, found: Found, most: u64) -> Result<bool, Halt>
         requires good { IsGood most self.old }
         requires next { (self.old.done ≡ None) × (self.old.next ≡ Next.Found found) }
@@ -423,7 +411,6 @@ impl PartialValue {
         Ok(true)
     }
 
-    // Sets the complete value of the last head, of which no byte is pending.
     fn finish(&mut self, value: Value)
         ensures done { self.new.done ≡ Some value }
         ensures next { self.new.next ≡ Next.Head Head.Type }
@@ -436,8 +423,7 @@ impl PartialValue {
         self.needed = 0;
     }
 
-    // Puts a complete value into its list, and closes the lists that it completes. Returns the
-    // outermost value if it is complete.
+    // Closes the lists that the value completes. Returns the outermost value if it is complete.
     #[inline(always)]
     fn put_value(&mut self, value: Value) -> Result<Option<Value>, AllocError>
         requires done { self.old.done ≡ None }
@@ -467,7 +453,6 @@ impl PartialValue {
         }
     }
 
-    // Opens a list of `n` members, or completes the empty one.
     fn open_list(&mut self, alloc: Global, most: u64, n: u64) -> Result<(), AllocError>
         requires good { IsGood most self.old }
         requires next { (self.old.done ≡ None) × (self.old.next ≡ Next.Found (Found.Members n)) }
@@ -492,7 +477,6 @@ impl PartialValue {
         Ok(())
     }
 
-    // Takes a payload with its line end, if both have come.
     fn take_bulk(&mut self, n: u64, most: u64) -> Result<bool, Halt>
         requires good { IsGood most self.old }
         requires next { (self.old.done ≡ None) × (self.old.next ≡ Next.Found (Found.Payload n)) }
@@ -526,7 +510,6 @@ impl PartialValue {
         }
     }
 
-    // Takes a line of text, if it has come completely.
     fn take_line(&mut self, line: Line, most: u64) -> Result<bool, Halt>
         requires good { IsGood most self.old }
         requires next { (self.old.done ≡ None) × (self.old.next ≡ Next.Found (Found.Line line)) }

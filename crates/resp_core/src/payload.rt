@@ -1,4 +1,3 @@
-//! The payload of a bulk string.
 ghost use Rattle.std.specs.Prelude.{◌≡◌, ◌+◌, List, ℕ, length, IfOk, IfSome};
 ghost use Rattle.resp_core.specs.Tree.{bulk};
 ghost use Rattle.resp_core.specs.Text.{text};
@@ -10,27 +9,22 @@ use bytes::Bytes;
 use std::alloc::AllocError;
 use std::marker::Model;
 
-// The length of a line end.
 const END_LEN: usize = 2;
 
-/// The payload of a bulk string. It may lie within the string's text as that was read; then the text can be sent on as it came.
-///
-/// Contracts see its bytes.
+/// The payload of a bulk string, which contracts see as bytes. It may lie within the string's text as that was
+/// read; then the text can be sent on as it came.
 pub struct Payload {
     held: Held,
 }
 
-// Written out so that a drop is one call: each function that holds one is proved sooner.
 impl Drop for Payload {
     fn drop(self) {
         let Payload { held: _ } = self;
     }
 }
 
-// How a payload is held.
 #[derive(Drop)]
 pub(crate) enum Held {
-    // Alone.
     Alone(Bytes),
     // In the one spelling of its bulk string, behind a head of so many bytes.
     InText { head: u8, text: Bytes },
@@ -58,7 +52,6 @@ impl Payload {
         }
     }
 
-    // The payload behind a head of so many bytes in the text of its bulk string.
     #[inline(always)]
     pub(crate) fn in_text(head: u8, text: Bytes) -> Payload
         requires { (s : List ℕ) × (text ≡ spelling (bulk s)) × (head + length s + 2 ≡ length text) }
@@ -91,7 +84,7 @@ impl Payload {
         self.as_slice().len()
     }
 
-    /// Its bytes, which it shares. Refused only for want of memory.
+    /// Its bytes, shared. Refused only for want of memory.
     #[inline(always)]
     pub fn bytes(&self) -> Result<Bytes, AllocError>
         ensures { IfOk result (λ bytes. bytes ≡ self.now) }
@@ -102,7 +95,7 @@ impl Payload {
         }
     }
 
-    /// An equal payload that shares its bytes, and the text that it may lie in. Refused only for want of memory.
+    /// An equal payload that shares its bytes and text. Refused only for want of memory.
     #[inline(always)]
     pub fn share(&self) -> Result<Payload, AllocError>
         ensures { IfOk result (λ p. p ≡ self.now) }
@@ -128,7 +121,6 @@ impl Payload {
         }
     }
 
-    // The length of its bulk string's one spelling; the greatest `u64` stands for any more.
     #[inline(always)]
     pub(crate) fn text_len(&self) -> u64
         ensures { result ≡ told_offset (length (text (bulk self.now))) }

@@ -11,19 +11,17 @@ use std::mem;
 // The most bytes of a block for copies of short texts. An idle connection can keep this many.
 pub(crate) const MAX_COPY_BLOCK: usize = 512;
 
-// Shorter payloads and texts are copied, and so are those of less than one in `MAX_KEPT` bytes of
-// the buffer. So a shared one keeps at most `MAX_KEPT` times its bytes.
+// Shorter texts are copied, and so are those of less than one in `MAX_KEPT` bytes of the buffer.
 const MIN_SHARED: usize = 16_384;
 
 pub(crate) const MAX_KEPT: usize = 8;
 
-/// The bytes, which contracts see with the room behind them.
+/// Contracts see the bytes and the room behind them.
 ///
-/// Texts of at most `MAX_COPY_BLOCK` bytes are parts of a copy of as many bytes, so that one copy serves many of them.
+/// Texts of at most `MAX_COPY_BLOCK` bytes are parts of copies that many share.
 #[derive(Drop)]
 pub(crate) struct Pending {
     bytes: BytesMut,
-    // A copy of the first bytes.
     copied: Bytes,
     copies: TextBlock,
 }
@@ -42,7 +40,6 @@ impl Model for Pending {
 }
 
 impl Pending {
-    /// No bytes.
     pub(crate) fn new(alloc: Global) -> Pending
         ensures { result.items ≡ [] }
     {
@@ -53,7 +50,6 @@ impl Pending {
         }
     }
 
-    /// The number of bytes.
     pub(crate) fn len(&self) -> usize
         ensures value { result ≡ length self.now.items }
         ensures bound { result < 2 ^ 63 }
@@ -61,19 +57,17 @@ impl Pending {
         self.bytes.len()
     }
 
-    /// The number of bytes for which there is room, with those that came.
+    /// The bytes that came count too.
     pub(crate) fn capacity(&self) -> usize {
         self.bytes.capacity()
     }
 
-    /// All bytes.
     pub(crate) fn as_slice(&self) -> &[u8]
         ensures { result.now ≡ self.now.items }
     {
         self.bytes.as_slice()
     }
 
-    /// Adds bytes behind the others, or none where there is no memory.
     pub(crate) fn feed(&mut self, piece: &[u8]) -> Result<(), AllocError>
         ensures ok { OnOk result (self.new.items ≡ self.old.items ++ piece.now) }
         ensures err { OnErr result (self.new.items ≡ self.old.items) }
@@ -85,7 +79,6 @@ impl Pending {
         }
     }
 
-    /// Takes this many bytes from the front.
     pub(crate) fn advance(&mut self, count: usize)
         requires { count ≤ length self.old.items }
         ensures items { self.new.items ≡ drop count self.old.items }
@@ -94,7 +87,7 @@ impl Pending {
         self.bytes.advance(count);
     }
 
-    /// Takes bytes from the front, and returns the first `len` of them. There has been room for `room` bytes.
+    /// Takes bytes from the front, and returns the first `len`. There has been room for `room` bytes.
     #[inline(always)]
     pub(crate) fn cut(&mut self, room: usize, len: usize, taken: usize) -> Result<Bytes, AllocError>
         requires inside { (len ≤ taken) × (taken ≤ length self.old.items) }
@@ -119,7 +112,7 @@ impl Pending {
         Ok(front)
     }
 
-    // The same where all bytes are taken: nothing is copied for the bytes behind, and no copy is kept.
+    // Nothing is copied for the bytes behind, and no copy is kept.
     fn cut_last(&mut self, len: usize) -> Result<Bytes, AllocError>
         requires { len ≤ length self.old.items }
         ensures front { IfOk result (λ b. b ≡ take len self.old.items) }
@@ -132,7 +125,7 @@ impl Pending {
         Ok(front)
     }
 
-    // The same for a text that is no part of a shared copy.
+    // The text is no part of a shared copy.
     fn cut_long(&mut self, room: usize, len: usize, taken: usize) -> Result<Bytes, AllocError>
         requires inside { (len ≤ taken) × (taken ≤ length self.old.items) }
         ensures front { IfOk result (λ b. b ≡ take len self.old.items) }
@@ -153,7 +146,6 @@ impl Pending {
         Ok(front)
     }
 
-    /// Drops the buffer, of which no byte may be pending.
     pub(crate) fn give_back(&mut self)
         requires { self.old.items ≡ [] }
         ensures { self.new.items ≡ self.old.items }
@@ -161,20 +153,18 @@ impl Pending {
         self.bytes = BytesMut::new(*self.bytes.allocator());
     }
 
-    /// Drops the copy of the first bytes. Texts that are parts of it stay.
+    /// Texts that are parts of the copy stay.
     pub(crate) fn forget_copies(&mut self)
         ensures { self.new ≡ self.old }
     {
         self.copied = Bytes::new();
     }
 
-    /// The allocator.
     pub(crate) fn alloc(&self) -> Global {
         *self.bytes.allocator()
     }
 }
 
-// Sees to it that the copy of the first bytes has `len` of them.
 #[inline(always)]
 fn cover(
     copies: &mut TextBlock,
@@ -193,7 +183,6 @@ fn cover(
     Ok(())
 }
 
-// Copies the first bytes, at least `len` of them.
 #[inline(never)]
 fn copy_anew(
     copies: &mut TextBlock,
@@ -210,7 +199,6 @@ fn copy_anew(
     Ok(())
 }
 
-// The first `len` bytes: of their copy, or of one more where that has too few.
 fn front_from(
     copied: Bytes,
     copies: &mut TextBlock,

@@ -1,4 +1,3 @@
-//! A reader of a stream that comes in pieces.
 ghost use Rattle.std.specs.Prelude.{◌≡◌, ◌≢◌, ◌⊎◌, ◌∷◌, ◌++◌, [], Ok, Err, Some, None, OnOk, OnErr, IfOk, IfErr, IfSome, IfNone, IsErrOf, ◌<◌, ◌≤◌, List, ℕ};
 ghost use Rattle.resp_core.specs.Tree.{Tree};
 ghost use Rattle.resp_core.specs.ReaderState.{Stands, StandsBehind, Unmoved, Leaves, unread_bytes};
@@ -19,9 +18,8 @@ use std::marker::Model;
 
 /// The most members of an array.
 ///
-/// The other limits are the same for all streams. A bulk string has at most 1,048,576 bytes, the line of a simple
-/// string, an error or an integer 65,536, and the text of one outermost value 8,388,608. Arrays are at most eight deep;
-/// a null array counts as one.
+/// Other limits are the same for all streams: 1,048,576 bytes of a bulk string, 65,536 of a line, 8,388,608 of an
+/// outermost value's text, and eight nested arrays. A null array counts as one.
 #[derive(Clone, Copy, Debug, PartialEq, Eq, Drop)]
 pub struct Limits {
     /// The most members of an array.
@@ -29,12 +27,12 @@ pub struct Limits {
 }
 
 impl Limits {
-    /// A client's commands: arrays of at most 1,024 members.
+    /// A client's commands.
     pub const CLIENT: Limits = Limits {
         array: MAX_CLIENT_MEMBERS,
     };
 
-    /// A host's replies: arrays of at most 65,536 members.
+    /// A host's replies.
     pub const HOST: Limits = Limits {
         array: MAX_HOST_MEMBERS,
     };
@@ -42,22 +40,17 @@ impl Limits {
 
 /// A reader of a stream that comes in any pieces.
 ///
-/// It is fed the bytes of the stream in order, and returns the values one after another. It
-/// continues where it stopped: of an unfinished value it keeps the complete members, and the bytes
-/// of an incomplete text or payload. A payload of at least 16,384 bytes and an eighth of its buffer
-/// is returned as a part of that buffer; any other is copied, and short ones are parts of copies of at
-/// most 512 bytes. A payload of fewer than 10,000 bytes lies in its text (`Payload::text`), where that is
-/// the one spelling and came in one piece. While no byte is pending the reader keeps a buffer of at most
-/// 32,768 bytes.
+/// It is fed the bytes in order, and returns the values one after another. A payload of at least 16,384 bytes and
+/// an eighth of its buffer is returned as a part of that buffer; any other is copied. One of fewer than 10,000
+/// bytes lies in its text (`Payload::text`), if that came in one piece in the one spelling.
 pub struct Reader {
     progress: PartialValue,
-    // The bytes of the stream before the unfinished value, at most the greatest `u64`.
+    // At most the greatest `u64`.
     consumed: u64,
     array: u32,
     refusal: Option<RespError>,
 }
 
-// Written out so that a drop is one call: each function that holds one is proved sooner.
 impl Drop for Reader {
     fn drop(self) {
         let Reader {
@@ -99,10 +92,8 @@ impl Reader {
         }
     }
 
-    /// The bytes held of the unfinished value: those fed, without the texts of the values returned; 0 after a refusal
-    /// 102 to 107.
-    ///
-    /// At most 8,388,608 after `next_value` has answered `None`.
+    /// The bytes fed, without the texts of the values returned; 0 after a refusal 102 to 107. At most 8,388,608
+    /// after `next_value` has answered `None`.
     pub fn held(&self) -> u64
         ensures is { result ≡ unread_bytes self.now }
         ensures left { (b : List ℕ) (ts : List Tree) → Stands self.now b ts
@@ -115,8 +106,7 @@ impl Reader {
         }
     }
 
-    /// Starts a new stream behind the values returned. It begins with the held bytes, and offsets count from there.
-    /// There must not have been a refusal.
+    /// Starts a new stream with the held bytes, from which offsets count. There must not have been a refusal.
     pub fn begin_behind(&mut self)
         requires { self.old.refusal ≡ None }
         ensures stands { (b : List ℕ) (ts : List Tree) → Stands self.old b ts
@@ -130,8 +120,7 @@ impl Reader {
 
     /// Takes the next piece of the stream.
     ///
-    /// Refused 101 (no memory): nothing has changed, and the piece may be fed again. Refused by 102 to 107 once
-    /// `next_value` has returned that refusal.
+    /// Refused 101 (no memory): nothing has changed. Refused 102 to 107 like `next_value` before.
     pub fn feed(&mut self, piece: &[u8]) -> Result<(), RespError>
         ensures ok { OnOk result ((b : List ℕ) (ts : List Tree) → Stands self.old b ts
             → Stands self.new (b ++ piece.now) ts) }
@@ -151,11 +140,10 @@ impl Reader {
         Ok(())
     }
 
-    /// The next value as its text, if it is a short command in its one spelling that has come completely: at most nine
-    /// words, each of less than 1,000 bytes, in at most 512 bytes.
+    /// The next value as its text, if it is a complete command in its one spelling: at most nine words, each of
+    /// less than 1,000 bytes, in at most 512 bytes.
     ///
-    /// `None`: it isn't known to be such a command, nothing has changed, and `next_value` reads on. Refused only for want of
-    /// memory: nothing has changed.
+    /// `None`, or refused only for want of memory: nothing has changed.
     pub fn next_spelled(&mut self) -> Result<Option<SpelledCommand>, AllocError>
         ensures value { IfOk result (λ o. IfSome o (λ c. (b : List ℕ) (ts : List Tree)
             → Stands self.old b ts
@@ -186,10 +174,9 @@ impl Reader {
 
     /// The next complete value, or `None` if it hasn't come completely.
     ///
-    /// Refused 101 (no memory): bytes and values are as before, and the next call continues. Refused 102 to 107 at the
-    /// first byte with which the unfinished value is no beginning of a text, or at its byte 8,388,609, after all values
-    /// before it. Where two of these numbers fit at that byte, the lower one is returned. From then on the reader holds
-    /// no bytes, and `feed` and `next_value` return the same refusal.
+    /// Refused 101 (no memory): the next call continues. Refused 102 to 107, after all values before it, at the
+    /// first byte with which the value is no beginning of a text, or at its byte 8,388,609; of two such numbers,
+    /// the lower. From then on the reader holds no bytes, and `feed` and `next_value` return the same refusal.
     pub fn next_value(&mut self) -> Result<Option<Value>, RespError>
         ensures value { IfOk result (λ o. IfSome o (λ v. (b : List ℕ) (ts : List Tree)
             → Stands self.old b ts

@@ -1,22 +1,18 @@
-//! What a text is appended to.
 ghost use Rattle.std.specs.Prelude.{◌≡◌, ◌+◌, ◌-◌, ◌≤◌, ◌++◌, ℕ, List, length, vec_len, vec_capacity, OnOk};
 
 use std::alloc::AllocError;
 
 /// Bytes that grow at their end.
 pub(crate) trait Sink {
-    // The bytes.
     ghost written: { Self → List ℕ };
 
     // How many more it takes for certain.
     ghost room: { Self → ℕ };
 
-    /// Makes room for this many bytes.
     fn reserve(&mut self, more: usize) -> Result<(), AllocError>
         ensures written { written self.new ≡ written self.old }
         ensures room { OnOk result (more ≤ room self.new) };
 
-    /// Appends bytes, for which there is room.
     fn put_reserved(&mut self, bytes: &[u8])
         requires { length bytes.now ≤ room self.old }
         ensures written { written self.new ≡ written self.old ++ bytes.now }

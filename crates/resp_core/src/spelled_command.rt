@@ -1,4 +1,3 @@
-//! Commands that are their text.
 ghost use Rattle.std.specs.Prelude.{◌≡◌, ◌<◌, ◌≤◌, ◌++◌, ℕ, List, length, map, take, IfOk, IfSome};
 ghost use Rattle.std.specs.Fmt.{decimal};
 ghost use Rattle.resp_core.specs.Tree.{bulk, trees_of};
@@ -21,20 +20,15 @@ use limits::MAX_BULK;
 use std::alloc::{AllocError, Global};
 use std::marker::Model;
 
-// The length of the line with the number of words.
 const HEAD_LEN: usize = 4;
 
-// The most words of such a command.
 pub(crate) const MAX_WORDS: u64 = 9;
 
-/// A command as it was read, where that is the one spelling of at most nine words in at most 512 bytes.
-///
-/// It is its text alone. Contracts see its words.
+/// A command as its text, where that is the one spelling of at most nine words in at most 512 bytes.
 pub struct SpelledCommand {
     text: Bytes,
 }
 
-// Written out so that a drop is one call: each function that holds one is proved sooner.
 impl Drop for SpelledCommand {
     fn drop(self) {
         let SpelledCommand { text: _ } = self;
@@ -52,7 +46,7 @@ impl Model for SpelledCommand {
     ghost invariant = { λ c. IsSpelled c.text (words_in c.text) };
 }
 
-// The number on the line behind this type byte, where it has at most three digits and no leading zeros, and the bytes behind.
+// The number has at most three digits and no leading zeros.
 fn short_line(bytes: &[u8], kind: u8, limit: u64) -> Option<(u64, &[u8])>
     ensures line { IfSome result (λ x. bytes.now ≡ line kind (decimal x.0) ++ x.1.now) }
     ensures limit { IfSome result (λ x. x.0 ≤ limit) }
@@ -68,7 +62,6 @@ fn short_line(bytes: &[u8], kind: u8, limit: u64) -> Option<(u64, &[u8])>
     Some((n, &rest[len..]))
 }
 
-// The bytes behind the bulk string at the front, if that is whole, in its one spelling, and short.
 fn behind_bulk(bytes: &[u8]) -> Option<&[u8]>
     ensures { IfSome result (λ rest. (s : List ℕ) × (bytes.now ≡ text (bulk s) ++ rest.now)) }
 {
@@ -79,7 +72,6 @@ fn behind_bulk(bytes: &[u8]) -> Option<&[u8]>
     }
 }
 
-/// The length of the command at the front, if it is whole, in its one spelling, and short.
 pub(crate) fn spelled_len(bytes: &[u8]) -> Option<usize>
     ensures inside { IfSome result (λ len. (0 < len) × (len ≤ length bytes.now)) }
     ensures spelled { IfSome result
@@ -101,14 +93,12 @@ pub(crate) fn spelled_len(bytes: &[u8]) -> Option<usize>
     }
 }
 
-// Where a bulk string's payload stands: behind so many bytes of its head, and how many bytes it has.
 #[derive(Clone, Copy, Drop)]
 pub(crate) struct Place {
     pub(crate) head: usize,
     pub(crate) len: usize,
 }
 
-// Where the payload of the bulk string at the front stands.
 fn place_of(bytes: &[u8]) -> Place
     requires { (s rest : List ℕ) × (bytes.now ≡ text (bulk s) ++ rest) × (length s ≤ max_bulk) }
     ensures { (s rest : List ℕ) → bytes.now ≡ text (bulk s) ++ rest → length s ≤ max_bulk
@@ -136,7 +126,6 @@ fn place_of(bytes: &[u8]) -> Place
     }
 }
 
-// The payload of the bulk string at the front, and the bytes behind it.
 fn split_bulk(bytes: &[u8]) -> (&[u8], &[u8])
     requires { (s rest : List ℕ) × (bytes.now ≡ text (bulk s) ++ rest) × (length s ≤ max_bulk) }
     ensures { (s rest : List ℕ) → bytes.now ≡ text (bulk s) ++ rest → length s ≤ max_bulk
@@ -147,7 +136,6 @@ fn split_bulk(bytes: &[u8]) -> (&[u8], &[u8])
     (word, &behind[2..])
 }
 
-// Takes the bulk string at the front, and returns its payload, which lies in that text. Refused only for want of memory.
 fn take_bulk(bytes: &mut Bytes) -> Result<Payload, AllocError>
     requires { (s rest : List ℕ) × (bytes.old ≡ text (bulk s) ++ rest) × (length s ≤ max_bulk) }
     ensures { IfOk result (λ word. (s rest : List ℕ) → bytes.old ≡ text (bulk s) ++ rest
@@ -174,7 +162,6 @@ impl SpelledCommand {
         (self.text.as_slice()[1] - b'0') as usize
     }
 
-    // The texts of its words, one behind the other. No word is too long.
     fn words(&self) -> &[u8]
         ensures texts { result.now ≡ texts (trees_of (map bulk self.now)) }
         ensures few { (at : ℕ) → at < length self.now → length (word self.now at) ≤ max_bulk }
@@ -182,7 +169,7 @@ impl SpelledCommand {
         self.text.as_slice().split_at(HEAD_LEN).1
     }
 
-    /// The bytes of word `at`; word 0 is the command's name. `at` must be below the number of words.
+    /// The bytes of word `at`; word 0 is the command's name.
     pub fn word(&self, at: usize) -> &[u8]
         requires { at < length self.now }
         ensures { result.now ≡ word self.now at }
@@ -194,7 +181,6 @@ impl SpelledCommand {
         split_bulk(rest).0
     }
 
-    // The command of this text.
     pub(crate) fn from_text(text: Bytes) -> SpelledCommand
         requires { (ws : List (List ℕ)) × IsSpelled text ws }
         ensures { (ws : List (List ℕ)) → IsSpelled text ws → result ≡ ws }
@@ -202,8 +188,8 @@ impl SpelledCommand {
         SpelledCommand { text }
     }
 
-    /// The command that these bytes are the text of, if they are one in its one spelling, of at most nine words in at most
-    /// 512 bytes. Words of 1,000 bytes or more aren't.
+    /// The command of this text, if that is the one spelling of one with at most nine words in at most 512 bytes.
+    /// Words of 1,000 bytes aren't taken.
     pub fn of(text: Bytes) -> Option<SpelledCommand>
         ensures { IfSome result (λ c. text ≡ spelling (command_of c)) }
     {
@@ -213,7 +199,7 @@ impl SpelledCommand {
         }
     }
 
-    /// The same command, which shares its text with this one. Refused only for want of memory.
+    /// The same command, with the same text. Refused only for want of memory.
     pub fn share(&self) -> Result<SpelledCommand, AllocError>
         ensures { IfOk result (λ c. c ≡ self.now) }
     {
@@ -222,7 +208,6 @@ impl SpelledCommand {
         })
     }
 
-    // The texts of its words, one behind the other, which share the bytes of its text. No word is too long.
     fn shared_words(&self) -> Result<Bytes, AllocError>
         ensures texts { IfOk result (λ b. b ≡ texts (trees_of (map bulk self.now))) }
         ensures few { (at : ℕ) → at < length self.now → length (word self.now at) ≤ max_bulk }
@@ -232,7 +217,7 @@ impl SpelledCommand {
         Ok(words)
     }
 
-    /// The same command as a value. Its words share their bytes with the text. Refused only for want of memory.
+    /// The same command as a value, whose words share the text. Refused only for want of memory.
     pub fn value(&self, alloc: Global) -> Result<Value, AllocError>
         ensures { IfOk result (λ v. tree_of v ≡ command_of self.now) }
     {

@@ -13,16 +13,14 @@ use crate::value::{Value, Values};
 use itoa::{Buffer, write_digits};
 use std::alloc::{AllocError, Global};
 
-// The most digits of a 64-bit number.
 const MAX_DIGITS: usize = 20;
 
-// Room for a type byte, digits and a line end.
 const EMPTY_HEAD: [u8; 23] = *b"000000000000000000000\r\n";
 
 /// Appends the one spelling of the value, or nothing.
 ///
-/// Lengths and integers have no plus sign and no leading zeros, and zero is `0`. The value must be plain
-/// (`Value::is_plain`). Memory for the whole text is reserved once. Refused 101 (no memory): nothing is appended.
+/// Lengths and integers have no plus sign and no leading zeros. The value must be plain (`Value::is_plain`).
+/// Refused 101 (no memory): nothing is appended.
 pub fn put_text(_alloc: Global, value: &Value, out: &mut Vec<u8>) -> Result<(), RespError>
     requires { IsTrue (is_plain_tree (tree_of value.now)) }
     ensures ok { OnOk result (out.new.items ≡ out.old.items ++ text (tree_of value.now)) }
@@ -38,9 +36,7 @@ pub fn put_text(_alloc: Global, value: &Value, out: &mut Vec<u8>) -> Result<(), 
     Ok(())
 }
 
-/// Appends the text of a bulk string with this payload, or nothing.
-///
-/// Memory is reserved once. Refused only where there is none.
+/// Appends the text of a bulk string with this payload, or nothing. Refused only for want of memory.
 #[inline(always)]
 pub fn put_bulk(payload: &[u8], out: &mut Vec<u8>) -> Result<(), AllocError>
     ensures ok { OnOk result (out.new.items ≡ out.old.items ++ text (bulk payload.now)) }
@@ -55,9 +51,8 @@ pub fn put_bulk(payload: &[u8], out: &mut Vec<u8>) -> Result<(), AllocError>
     Ok(())
 }
 
-/// Appends these bytes, and the text of a bulk string with this payload behind them; or nothing.
-///
-/// Refused only where there is no memory.
+/// Appends these bytes, and the text of a bulk string with this payload; or nothing. Refused only for want of
+/// memory.
 #[inline(always)]
 pub fn put_bulk_behind(head: &[u8], payload: &[u8], out: &mut Vec<u8>) -> Result<(), AllocError>
     ensures ok { OnOk result
@@ -72,7 +67,7 @@ pub fn put_bulk_behind(head: &[u8], payload: &[u8], out: &mut Vec<u8>) -> Result
     Ok(())
 }
 
-// Appends these bytes, and a bulk string behind them. Where memory is refused, a part may have been appended.
+// Where memory is refused, a part may have been appended.
 #[inline(always)]
 pub(crate) fn append_behind<S: Sink>(
     head: &[u8],
@@ -88,7 +83,7 @@ pub(crate) fn append_behind<S: Sink>(
     append_bulk(payload, out)
 }
 
-/// Appends the one spelling of the value. Where memory is refused, a part may have been appended.
+/// Where memory is refused, a part may have been appended.
 #[cycle(text)]
 pub(crate) fn append_value<S: Sink>(value: &Value, out: &mut S) -> Result<(), AllocError>
     ensures ok { OnOk result (S.written out.new ≡ S.written out.old ++ text (tree_of value.now)) }
@@ -133,7 +128,6 @@ fn append_values<S: Sink>(values: &Values, out: &mut S) -> Result<(), AllocError
     Ok(())
 }
 
-// Appends the text of a bulk string of this payload, or nothing.
 #[inline(always)]
 fn append_payload<S: Sink>(payload: &Payload, out: &mut S) -> Result<(), AllocError>
     ensures ok { OnOk result
@@ -150,7 +144,6 @@ fn append_payload<S: Sink>(payload: &Payload, out: &mut S) -> Result<(), AllocEr
     }
 }
 
-// Appends the text of a bulk string, or nothing.
 #[inline(always)]
 pub(crate) fn append_bulk<S: Sink>(payload: &[u8], out: &mut S) -> Result<(), AllocError>
     ensures ok { OnOk result
@@ -163,7 +156,7 @@ pub(crate) fn append_bulk<S: Sink>(payload: &[u8], out: &mut S) -> Result<(), Al
     Ok(())
 }
 
-// Appends a type byte and a number's line in one copy, or nothing. There is room for `more` bytes behind it.
+// There is room for `more` bytes behind it.
 #[inline(always)]
 fn append_count<S: Sink>(kind: u8, count: u64, more: usize, out: &mut S) -> Result<(), AllocError>
     requires more { more ≤ 2 ^ 63 + 1 }
@@ -199,7 +192,6 @@ fn append_count<S: Sink>(kind: u8, count: u64, more: usize, out: &mut S) -> Resu
     append_head(&head[digits - 1..], more, out)
 }
 
-// Appends a line with this type byte, or nothing.
 fn append_line<S: Sink>(kind: u8, bytes: &[u8], out: &mut S) -> Result<(), AllocError>
     ensures ok { OnOk result (S.written out.new ≡ S.written out.old ++ line kind bytes.now) }
     ensures err { OnErr result (S.written out.new ≡ S.written out.old) }
@@ -210,7 +202,7 @@ fn append_line<S: Sink>(kind: u8, bytes: &[u8], out: &mut S) -> Result<(), Alloc
     Ok(())
 }
 
-// Appends a head, or nothing. There is room for `more` bytes behind it.
+// There is room for `more` bytes behind it.
 #[inline(always)]
 fn append_head<S: Sink>(head: &[u8], more: usize, out: &mut S) -> Result<(), AllocError>
     requires short { length head.now ≤ 23 }
@@ -225,9 +217,7 @@ fn append_head<S: Sink>(head: &[u8], more: usize, out: &mut S) -> Result<(), All
 }
 
 impl Value {
-    /// The length of the value's one spelling; the greatest `u64` stands for any more.
-    ///
-    /// The value needn't be plain: all bytes of its strings count.
+    /// The length of the value's one spelling, or the greatest `u64`. The value needn't be plain.
     #[cycle(length)]
     pub fn text_len(&self) -> u64
         ensures { result ≡ told_offset (length (text (tree_of self.now))) }
@@ -265,7 +255,7 @@ fn members_len(values: &Values) -> u64
     total
 }
 
-/// The length of a bulk string's text with this many bytes of payload; the greatest `u64` stands for any more.
+/// The length of a bulk string's text, by that of its payload, or the greatest `u64`.
 pub fn bulk_len(payload: u64) -> u64
     ensures { result ≡ told_offset (length (decimal payload) + 3 + payload + 2) }
 {
@@ -274,14 +264,13 @@ pub fn bulk_len(payload: u64) -> u64
         .saturating_add(2)
 }
 
-// The length of a line with its type byte and its end, and this many bytes between.
 fn line_len(bytes: u64) -> u64
     ensures { result ≡ told_offset (bytes + 3) }
 {
     bytes.saturating_add(3)
 }
 
-// The number of digits, with a minus sign if the number is negative.
+// The minus sign counts.
 fn signed_digits(n: i64) -> u64
     ensures { result ≡ length (signed_decimal n) }
 {
@@ -289,7 +278,6 @@ fn signed_digits(n: i64) -> u64
     if n < 0 { count + 1 } else { count }
 }
 
-// The number of digits.
 pub(crate) fn digits(n: u64) -> u64
     ensures { result ≡ length (decimal n) }
 {

@@ -1,4 +1,3 @@
-//! Short texts in blocks that they share.
 ghost use Rattle.std.specs.Prelude.{◌≡◌, ◌≤◌, [], IfOk, OnOk};
 
 use crate::sink::Sink;
@@ -12,14 +11,11 @@ const MIN_TEXTS: usize = 4;
 // The first block is this fraction of the longest.
 const FIRST_BLOCK: usize = 8;
 
-/// The free rest of a block of texts, with the text that is being written at its front.
-///
-/// Where a text lies doesn't change it, so contracts see the text and the room behind it.
+/// The free rest of a block, with the text that is being written at its front.
 #[derive(Drop)]
 pub(crate) struct TextBlock {
     alloc: Global,
     left: BytesMut,
-    // The length of the block, and the greatest length of the next one.
     block_len: usize,
     longest: usize,
 }
@@ -51,7 +47,7 @@ impl Sink for TextBlock {
 }
 
 impl TextBlock {
-    /// No block yet. Later blocks have at most `longest` bytes.
+    /// Later blocks have at most `longest` bytes.
     pub(crate) fn new(alloc: Global, longest: usize) -> TextBlock {
         TextBlock {
             alloc,
@@ -61,8 +57,7 @@ impl TextBlock {
         }
     }
 
-    /// Begins a text of at most `len` bytes, behind the finished ones or in the next block. A text that was begun and
-    /// not finished is dropped.
+    /// Begins a text of at most `len` bytes. A text that was begun and not finished is dropped.
     #[inline(always)]
     pub(crate) fn begin(&mut self, len: usize) -> Result<(), AllocError>
         ensures empty { OnOk result (self.new.items ≡ []) }
@@ -75,7 +70,7 @@ impl TextBlock {
         Ok(())
     }
 
-    /// Finishes the text, which was begun with this length. If it is longer, it keeps its block to itself.
+    /// If the text is longer than `len`, it keeps its block to itself.
     #[inline(always)]
     pub(crate) fn finish(&mut self, len: usize) -> Result<Bytes, AllocError>
         ensures { IfOk result (λ bytes. bytes ≡ self.old.items) }
@@ -88,8 +83,7 @@ impl TextBlock {
         Ok(text)
     }
 
-    /// A copy of the text, behind the others or in the next block. A text of more than a quarter of the longest block
-    /// has a block of its own.
+    /// A text of more than a quarter of the longest block has a block of its own.
     #[inline(always)]
     pub(crate) fn copy_of(&mut self, text: &[u8]) -> Result<Bytes, AllocError>
         ensures { IfOk result (λ bytes. bytes ≡ text.now) }
@@ -102,7 +96,7 @@ impl TextBlock {
         self.finish(text.len())
     }
 
-    // Begins a block: twice as long as the last one, or as long as its first text if that is longer.
+    // It is twice as long as the last one, or as its first text if that is longer.
     fn begin_block(&mut self, text_len: usize) -> Result<(), AllocError>
         ensures empty { OnOk result (self.new.items ≡ []) }
         ensures room { OnOk result (text_len ≤ self.new.spare) }

@@ -1,4 +1,3 @@
-//! Texts in blocks that they share.
 ghost use Rattle.std.specs.Prelude.{◌≡◌, ◌++◌, IfOk, IfSome, IsTrue};
 ghost use Rattle.resp_core.specs.Text.{text};
 ghost use Rattle.resp_core.specs.Tree.{bulk, is_plain_tree};
@@ -11,16 +10,14 @@ use bytes::Bytes;
 use std::alloc::{AllocError, Global};
 use std::marker::Model;
 
-// The most bytes of a block that texts share.
 pub(crate) const MAX_TEXT_BLOCK: usize = 16_384;
 
-// The most bytes of a text that shares a block.
 const MAX_SHORT: usize = 1_024;
 
-/// Writes texts. Short ones share blocks of memory.
+/// Writes texts.
 ///
-/// A text of more than 1,024 bytes has a block of its own. A shared block has at most 16,384 bytes, and is freed with
-/// the last of its texts. Where a text lies doesn't change it, so all `Texts` look alike to contracts.
+/// One of more than 1,024 bytes has a block of its own. Shorter ones share blocks of at most 16,384 bytes, freed
+/// with the last text.
 #[derive(Drop)]
 pub struct Texts {
     alloc: Global,
@@ -44,9 +41,8 @@ impl Texts {
         }
     }
 
-    /// The one spelling of the value, which must be plain (`Value::is_plain`). `text_len` is its `Value::text_len`:
-    /// that much memory is reserved at once. A wrong number doesn't change the text. A payload that lies in its text isn't
-    /// written: that text is shared.
+    /// The one spelling of the value, which must be plain. `text_len` is its `Value::text_len`; a wrong number
+    /// doesn't change the text. A payload that lies in its text shares it.
     ///
     /// Refused only for want of memory.
     pub fn text_of(&mut self, value: &Value, text_len: u64) -> Result<Bytes, AllocError>
@@ -67,9 +63,7 @@ impl Texts {
         self.block.finish(len)
     }
 
-    /// The text that begins with `head` and ends with a bulk string of this payload.
-    ///
-    /// Refused only for want of memory.
+    /// `head`, and a bulk string of this payload. Refused only for want of memory.
     pub fn bulk_behind(&mut self, head: &[u8], payload: &[u8]) -> Result<Bytes, AllocError>
         ensures { IfOk result (λ bytes. bytes ≡ head.now ++ text (bulk payload.now)) }
     {
@@ -85,9 +79,7 @@ impl Texts {
         self.block.finish(len)
     }
 
-    /// The text that begins with `head` and ends with bulk strings of these two payloads.
-    ///
-    /// Refused only for want of memory.
+    /// `head`, and bulk strings of these two payloads. Refused only for want of memory.
     pub fn bulks_behind(
         &mut self,
         head: &[u8],
@@ -113,7 +105,6 @@ impl Texts {
     }
 }
 
-// The one spelling of a bulk string whose payload lies in it.
 #[inline(always)]
 fn text_around(value: &Value) -> Option<&Bytes>
     ensures { IfSome result (λ bytes. bytes.now ≡ text (tree_of value.now)) }

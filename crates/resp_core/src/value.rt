@@ -1,4 +1,3 @@
-//! The values of the protocol.
 ghost use Rattle.std.specs.Prelude.{◌≡◌, IfOk, IfErr};
 ghost use Rattle.std.specs.List.{list_all};
 ghost use Rattle.resp_core.specs.Tree.{is_text_byte, are_plain_trees, trees_of};
@@ -63,7 +62,7 @@ impl Value {
     ghost use Rattle.resp_core.specs.Value.{tree_of};
     ghost use Rattle.resp_core.specs.Tree.{is_plain_tree};
 
-    /// Whether it can be written: no simple string and no error in it has a CR or an LF.
+    /// Whether no simple string and no error in it has a CR or an LF, so that it can be written.
     #[cycle(plain)]
     pub fn is_plain(&self) -> bool
         ensures { result ≡ is_plain_tree (tree_of self.now) }
@@ -77,9 +76,7 @@ impl Value {
 }
 
 impl Value {
-    /// An equal value that shares the bytes of its payloads with this one.
-    ///
-    /// Refused 101 (no memory).
+    /// An equal value that shares its payloads' bytes. Refused 101 (no memory).
     #[cycle(share)]
     pub fn share(&self, alloc: Global) -> Result<Value, RespError>
         ensures value { IfOk result (λ v. v ≡ self.now) }
@@ -121,7 +118,6 @@ fn are_plain(values: &Values) -> bool
     true
 }
 
-// Whether there is no CR and no LF.
 fn is_line(bytes: &[u8]) -> bool
     ensures { result ≡ list_all is_text_byte bytes.now }
 {

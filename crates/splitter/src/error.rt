@@ -1,4 +1,3 @@
-//! Why a call is refused.
 ghost use Rattle.std.specs.Prelude.{◌≡◌};
 ghost use Rattle.splitter.specs.declared.error.SplitError.TheVariants.{NoMemory};
 
@@ -17,7 +16,7 @@ pub enum SplitError {
 impl SplitError {
     ghost use Rattle.splitter.specs.Refusal.{number_of};
 
-    /// The number by which the refusal is documented, 701.
+    /// 701.
     pub fn number(self) -> u16
         ensures { result ≡ number_of self }
     {
@@ -43,7 +42,7 @@ impl<T: Drop> From<AllocFailed<T>> for SplitError {
     }
 }
 
-// Writing and sharing values is refused here only for want of memory.
+// These calls refuse only for want of memory.
 impl From<RespError> for SplitError {
     ghost from_gives = { λ _ e. e ≡ NoMemory };
 

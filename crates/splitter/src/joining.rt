@@ -1,4 +1,3 @@
-//! Joins the values of a command's parts.
 ghost use Rattle.std.specs.Prelude.{◌≡◌, ◌++◌, IfOk, IfErr, length, map, not, count_by, codes};
 ghost use Rattle.std.specs.Fmt.{decimal};
 ghost use Rattle.resp_core.specs.Tree.{list, trees_of};
@@ -11,10 +10,8 @@ use bytes::Bytes;
 use resp_core::{Value, Values};
 use std::alloc::Global;
 
-/// Joins the values of a command's parts, in the order of the parts.
-///
-/// There must be at least one value, and exactly one for `Same`. Payloads share their bytes with the values. Refused
-/// 701 (no memory).
+/// Joins the values of a command's parts, in their order. There must be at least one, and exactly one for `Same`.
+/// Refused 701 (no memory).
 pub fn join(alloc: Global, how: Join, values: &[Value]) -> Result<Value, SplitError>
     requires { MayJoin how (length values.now) }
     ensures value { IfOk result (λ v. tree_of v ≡ join_of how (map tree_of values.now)) }
@@ -31,7 +28,6 @@ pub fn join(alloc: Global, how: Join, values: &[Value]) -> Result<Value, SplitEr
     }
 }
 
-// The number of values that aren't simple `OK`.
 fn undone_count(values: &[Value]) -> usize
     ensures { result ≡ count_by (λ t. not (is_done t)) (map tree_of values.now) }
 {
@@ -44,7 +40,6 @@ fn undone_count(values: &[Value]) -> usize
     count
 }
 
-// The number of values that are no integers.
 fn unwhole_count(values: &[Value]) -> usize
     ensures { result ≡ count_by (λ t. not (is_whole t)) (map tree_of values.now) }
 {
@@ -57,7 +52,6 @@ fn unwhole_count(values: &[Value]) -> usize
     count
 }
 
-// The values, each in its place.
 fn in_places(alloc: Global, values: &[Value]) -> Result<Values, SplitError>
     ensures values { IfOk result (λ ts. ts ≡ map in_place (map tree_of values.now)) }
     ensures err { IfErr result (λ e. e ≡ SplitError.NoMemory) }
@@ -69,7 +63,6 @@ fn in_places(alloc: Global, values: &[Value]) -> Result<Values, SplitError>
     Ok(Values(places))
 }
 
-// The value itself if it is a bulk string, a null bulk string or an error.
 fn in_place(alloc: Global, value: &Value) -> Result<Value, SplitError>
     ensures value { IfOk result (λ v. tree_of v ≡ in_place (tree_of value.now)) }
     ensures err { IfErr result (λ e. e ≡ SplitError.NoMemory) }
@@ -86,7 +79,6 @@ fn upstream_protocol_error() -> Value
     Value::Fault(Bytes::from_static(b"upstream protocol error"))
 }
 
-// Whether the value is simple `OK`.
 fn is_done(value: &Value) -> bool
     ensures { result ≡ is_done (tree_of value.now) }
 {
@@ -102,7 +94,6 @@ fn is_whole(value: &Value) -> bool
     matches!(value, Value::Whole(_))
 }
 
-// The value if no part failed, else the error with the number of failed parts.
 fn unless_failed(alloc: Global, failed: usize, value: Value) -> Result<Value, SplitError>
     ensures value { IfOk result (λ v. tree_of v ≡ unless_failed failed (tree_of value)) }
     ensures err { IfErr result (λ e. e ≡ SplitError.NoMemory) }
@@ -114,7 +105,6 @@ fn unless_failed(alloc: Global, failed: usize, value: Value) -> Result<Value, Sp
     finished_with(alloc, failed)
 }
 
-// The error with the number of failed parts.
 fn finished_with(alloc: Global, failed: usize) -> Result<Value, SplitError>
     ensures value { IfOk result (λ v. tree_of v ≡ finished_with failed) }
     ensures err { IfErr result (λ e. e ≡ SplitError.NoMemory) }
@@ -126,7 +116,7 @@ fn finished_with(alloc: Global, failed: usize) -> Result<Value, SplitError>
     Ok(Value::Fault(Bytes::from_vec(text)?))
 }
 
-// The sum of the integers among the values: fewer than 2^64 numbers of 64 bits fit 128 bits.
+// Fewer than 2^64 numbers of 64 bits fit 128 bits.
 fn total(values: &[Value]) -> i128
     ensures { result ≡ total (map tree_of values.now) }
 {
@@ -137,7 +127,6 @@ fn total(values: &[Value]) -> i128
     sum
 }
 
-// The number of an integer, and 0 for any other value.
 fn number(value: &Value) -> i64
     ensures { result ≡ number_of (tree_of value.now) }
 {
@@ -147,7 +136,6 @@ fn number(value: &Value) -> i64
     }
 }
 
-// The sum as an integer of 64 bits, or an error.
 fn told_sum(sum: i128) -> Value
     ensures { tree_of result ≡ told_sum sum }
 {

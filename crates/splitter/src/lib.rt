@@ -1,8 +1,8 @@
-//! Plans what the proxy does with a request: the parts that it is split into, and how their values are joined to one reply.
+//! Plans a request: its parts, and how their values are joined to one reply.
 //!
-//! The names, meanings and texts of commands are those of Redis. The table of plans, the texts of the proxy's own
-//! answers and the rules of the joins are this project's own profile. It stands on `resp_core` and `command_table`.
-//! Begin with `plans.rt`, then `planning.rt`.
+//! The names, meanings and texts of commands are those of Redis. The plans, the proxy's own answers and the joins
+//! are this project's own profile. It stands on `resp_core` and `command_table`. Begin with `plans.rt`, then
+//! `planning.rt`.
 #![tactic(auto)]
 
 mod error;

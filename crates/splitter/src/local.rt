@@ -1,4 +1,3 @@
-//! The texts of the proxy's own errors.
 ghost use Rattle.std.specs.Prelude.{◌≡◌, ◌++◌, IfOk, IfErr, OnOk};
 ghost use Rattle.command_table.specs.Entry.{row_of};
 ghost use Rattle.splitter.specs.Plan.{shown_name, shown_byte, unsupported_text, wrong_number};
@@ -9,7 +8,6 @@ use command_table::Entry;
 use limits::MAX_SHOWN;
 use std::alloc::{AllocError, Global};
 
-/// The error text for an unknown name.
 pub(crate) fn unsupported(alloc: Global, name: &[u8]) -> Result<Bytes, SplitError>
     ensures text { IfOk result (λ text. text ≡ unsupported_text name.now) }
     ensures err { IfErr result (λ e. e ≡ SplitError.NoMemory) }
@@ -21,7 +19,6 @@ pub(crate) fn unsupported(alloc: Global, name: &[u8]) -> Result<Bytes, SplitErro
     Ok(Bytes::from_vec(text)?)
 }
 
-// Appends the name as it is shown.
 fn append_shown(text: &mut Vec<u8>, name: &[u8]) -> Result<(), AllocError>
     ensures { OnOk result (text.new.items ≡ text.old.items ++ shown_name name.now) }
 {
@@ -31,7 +28,6 @@ fn append_shown(text: &mut Vec<u8>, name: &[u8]) -> Result<(), AllocError>
     Ok(())
 }
 
-// The byte as it is shown.
 fn shown_byte(byte: u8) -> u8
     ensures { result ≡ shown_byte byte }
 {
@@ -42,7 +38,6 @@ fn shown_byte(byte: u8) -> u8
     }
 }
 
-/// The error text for a wrong number of words.
 pub(crate) fn wrong_number(alloc: Global, entry: Entry) -> Result<Bytes, SplitError>
     ensures text { IfOk result (λ text. text ≡ wrong_number (row_of entry)) }
     ensures err { IfErr result (λ e. e ≡ SplitError.NoMemory) }

@@ -1,4 +1,3 @@
-//! The parts of a command, each with its key and the text for its host.
 ghost use Rattle.std.specs.Prelude.{◌≡◌, ◌<◌, ◌++◌, ◌∷◌, [], IfOk, IfErr, IfSome, OnOk, true, codes, drop, length, map};
 ghost use Rattle.resp_core.specs.Tree.{bulk, is_plain_tree};
 ghost use Rattle.resp_core.specs.Value.{tree_of};
@@ -20,11 +19,9 @@ use std::alloc::Global;
 // The most bytes of the texts of parts that share a block.
 const MAX_JOINED: usize = 16_384;
 
-// The bytes for which memory is reserved for the head of a part's text; most are shorter.
+// Most heads are shorter.
 const MAX_HEAD: usize = 32;
 
-/// The one part of a command that goes to the host of its word `key_at`. The value must be the command with these
-/// words; `text_len` is the length of its text.
 pub(crate) fn whole_part<'a>(
     texts: &mut Texts,
     command: &Value,
@@ -45,8 +42,7 @@ pub(crate) fn whole_part<'a>(
     })
 }
 
-/// A part for each word behind the name: a command of this name and that word, which is the key. `text_len` is the length
-/// of the text of the command with these words.
+/// A part for each word behind the name, which is its key.
 pub(crate) fn key_parts(
     alloc: Global,
     texts: &mut Texts,
@@ -66,8 +62,7 @@ pub(crate) fn key_parts(
     }
 }
 
-// The texts of the parts that begin with `head`, one behind the other. `None` if they have more bytes than may share a block.
-// Memory is reserved for heads and for `text_len` bytes.
+// `None` if the texts have more bytes than may share a block.
 fn joined_texts(
     alloc: Global,
     text_len: u64,
@@ -91,7 +86,6 @@ fn joined_texts(
     Ok(Some(Bytes::from_vec(joined)?))
 }
 
-// The parts whose texts these are, one behind the other.
 fn joined_parts(
     alloc: Global,
     head: &[u8],
@@ -118,7 +112,6 @@ fn joined_parts(
     Ok(PartPlans(parts))
 }
 
-// The same parts, each with a text of its own.
 fn single_parts(
     alloc: Global,
     texts: &mut Texts,
@@ -137,7 +130,7 @@ fn single_parts(
     Ok(PartPlans(parts))
 }
 
-/// A part for each two words behind the name, a key and a value: a SET of both.
+/// A SET for each key.
 pub(crate) fn pair_parts(
     alloc: Global,
     texts: &mut Texts,
@@ -159,7 +152,6 @@ pub(crate) fn pair_parts(
     Ok(PartPlans(parts))
 }
 
-// The text of a command of this many words, up to the end of its name.
 fn head(alloc: Global, words: usize, name: Bytes) -> Result<Vec<u8>, SplitError>
     ensures text { IfOk result (λ head. head.items ≡ head_of words name) }
     ensures err { IfErr result (λ e. e ≡ SplitError.NoMemory) }
@@ -172,7 +164,6 @@ fn head(alloc: Global, words: usize, name: Bytes) -> Result<Vec<u8>, SplitError>
     Ok(head)
 }
 
-// The part of a command with one key, whose text begins with `head`.
 fn key_part(texts: &mut Texts, head: &[u8], key: &Payload) -> Result<PartPlan, SplitError>
     ensures part { IfOk result (λ p. p ≡ part_of key.now (head.now ++ text (bulk key.now))) }
     ensures err { IfErr result (λ e. e ≡ SplitError.NoMemory) }
@@ -183,7 +174,6 @@ fn key_part(texts: &mut Texts, head: &[u8], key: &Payload) -> Result<PartPlan, S
     })
 }
 
-// The part of a command with a key and its value, whose text begins with `head`.
 fn pair_part(
     texts: &mut Texts,
     head: &[u8],

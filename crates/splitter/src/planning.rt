@@ -1,4 +1,3 @@
-//! Plans requests.
 ghost use Rattle.std.specs.Prelude.{◌≡◌, IfOk, IfErr, IfSome, Contains, true, length, map};
 ghost use Rattle.std.specs.Str.{str_to_ascii_uppercase};
 ghost use Rattle.resp_core.specs.Value.{tree_of};
@@ -19,10 +18,7 @@ use command_table::{Entry, Kind, look};
 use resp_core::{SpelledCommand, Texts, Value, Values};
 use std::alloc::Global;
 
-/// The plan of a request, by the table of commands.
-///
-/// It depends on the request alone. The keys of a command that is split, and the reply of ECHO, share their bytes with the
-/// request. Refused 701 (no memory).
+/// The plan of a request. Refused 701 (no memory).
 pub fn plan(alloc: Global, request: &Request) -> Result<Plan, SplitError>
     ensures plan { IfOk result (λ p. plan_in p ≡ plan_of (request_of request.now)) }
     ensures err { IfErr result (λ e. e ≡ SplitError.NoMemory) }
@@ -33,7 +29,6 @@ pub fn plan(alloc: Global, request: &Request) -> Result<Plan, SplitError>
     )
 }
 
-// The same plan, which lends nothing.
 fn owned(alloc: Global, planned: Planned<'_>) -> Result<Plan, SplitError>
     ensures plan { IfOk result (λ p. plan_in p ≡ planned_in planned.entry) }
     ensures err { IfErr result (λ e. e ≡ SplitError.NoMemory) }
@@ -53,8 +48,8 @@ fn owned(alloc: Global, planned: Planned<'_>) -> Result<Plan, SplitError>
     }
 }
 
-/// The same, for one request of many: the parts' texts are written to `texts`, and a command that stays whole lends
-/// its key. `text_len` is `Request::text_len`; a wrong number doesn't change the plan. Refused 701 (no memory).
+/// The same, for one request of many. The parts' texts are written to `texts`. A command that stays whole lends its
+/// key. `text_len` is `Request::text_len`; a wrong number doesn't change the plan.
 pub fn plan_with<'a>(
     alloc: Global,
     texts: &mut Texts,
@@ -74,7 +69,6 @@ pub fn plan_with<'a>(
     }
 }
 
-// The plan of a value.
 fn plan_value<'a>(
     alloc: Global,
     texts: &mut Texts,
@@ -93,7 +87,6 @@ fn plan_value<'a>(
     }
 }
 
-// The plan of a command that is its text: what goes whole to one host is passed on as it came.
 fn plan_spelled<'a>(
     alloc: Global,
     texts: &mut Texts,
@@ -114,7 +107,6 @@ fn plan_spelled<'a>(
     Ok(Planned::Other(owned(alloc, planned)?))
 }
 
-// The table's entry of a command that goes whole to one host and has a right number of words.
 fn whole_entry(command: &SpelledCommand) -> Option<Entry>
     ensures { IfSome result (λ entry. IsWholeBy entry command.now) }
 {
@@ -126,7 +118,6 @@ fn whole_entry(command: &SpelledCommand) -> Option<Entry>
     }
 }
 
-// The plan of a command, which is this value with these words.
 fn plan_command<'a>(
     alloc: Global,
     texts: &mut Texts,
@@ -157,7 +148,6 @@ fn plan_command<'a>(
     plan_known(alloc, texts, entry, command, text_len, words)
 }
 
-// Whether the command may have this many words.
 fn takes(entry: Entry, words: usize) -> bool
     ensures { result ≡ takes entry.kind entry.least words }
 {
@@ -168,7 +158,6 @@ fn takes(entry: Entry, words: usize) -> bool
     }
 }
 
-// The plan of a command of the table with a right number of words.
 fn plan_known<'a>(
     alloc: Global,
     texts: &mut Texts,
@@ -212,7 +201,6 @@ fn plan_known<'a>(
     Ok(Planned::Other(Plan::Parts { how, list }))
 }
 
-// The command's name in upper case.
 fn upper_name(alloc: Global, entry: Entry) -> Result<Bytes, SplitError>
     ensures name { IfOk result (λ name. name ≡ str_to_ascii_uppercase entry.name.now) }
     ensures err { IfErr result (λ e. e ≡ SplitError.NoMemory) }

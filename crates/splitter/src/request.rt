@@ -1,15 +1,14 @@
-//! Requests of clients.
 ghost use Rattle.std.specs.Prelude.{◌≡◌};
 ghost use Rattle.resp_core.specs.Stream.{told_offset};
 
 use resp_core::{SpelledCommand, Value};
 
-/// A request of a client's stream: a value, or bytes that are no text of one.
+/// A request of a client's stream.
 #[derive(Drop)]
 pub enum Request {
     /// A value, which may be a command.
     Read(Value),
-    /// A short command in its one spelling, which is its text.
+    /// A short command in its one spelling.
     Spelled(SpelledCommand),
     /// The reader refused the input.
     Broken,
@@ -18,7 +17,7 @@ pub enum Request {
 impl Request {
     ghost use Rattle.splitter.specs.Request.{length_of};
 
-    /// The length of the value's one spelling; the greatest `u64` stands for any more. 0 for bytes that are no text.
+    /// The length of the value's one spelling, or the greatest `u64`; 0 for `Broken`.
     pub fn text_len(&self) -> u64
         ensures { result ≡ told_offset (length_of self.now) }
     {

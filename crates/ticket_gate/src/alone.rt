@@ -1,4 +1,3 @@
-//! Turns on a state that one pass has for itself.
 ghost use Rattle.std.specs.Prelude.{◌≡◌, []};
 ghost use Rattle.ticket_gate.specs.Journal.{steps_of};
 ghost use Rattle.ticket_gate.specs.Turns.{AloneFacts, IsUsedBy, alone_with};
@@ -9,7 +8,7 @@ use crate::turns::Turns;
 use std::marker::Model;
 use std::sync::Wait;
 
-/// A state that one pass has for itself. All steps of its journal are of this pass.
+/// A state that one pass has for itself.
 #[derive(Drop)]
 pub struct Alone<S: Recorded> {
     state: S,
@@ -25,7 +24,7 @@ impl<S: Recorded> Model for Alone<S> {
 }
 
 impl<S: Recorded> Alone<S> {
-    /// Takes a state with an empty journal for the pass with this number.
+    /// Takes a state with an empty journal for this pass.
     pub fn new(state: S, pass: u64) -> Alone<S>
         requires { S.journal state ≡ [] }
         ensures { result ≡ alone_with state pass }
@@ -40,7 +39,7 @@ impl<S: Recorded> Alone<S> {
         &self.state
     }
 
-    /// Returns the state. Its journal is legal, and all its steps are of this pass.
+    /// Returns the state, of which all steps are of this pass.
     pub fn into_state(self) -> S
         ensures state { result ≡ self.state }
         ensures is_legal { S.legal (S.setting result) (S.journal result) }
@@ -51,7 +50,7 @@ impl<S: Recorded> Alone<S> {
     }
 }
 
-/// No turn is refused for want of a ticket: only the state refuses `turn`.
+/// Only the state refuses `turn`.
 impl<S: Recorded> Turns for Alone<S> {
     type Event = S::Event;
 

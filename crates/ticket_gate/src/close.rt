@@ -1,4 +1,3 @@
-//! The end of a gate.
 ghost use Rattle.std.specs.Prelude.{IfSome};
 ghost use Rattle.ticket_gate.specs.Gate.{IsPassOf};
 ghost use Rattle.ticket_gate.specs.Journal.{Closes};
@@ -9,9 +8,7 @@ use crate::recorded::Recorded;
 impl<S: Recorded> Gate<S> {
     /// Ends the gate, and returns its state if each ticket drawn has been served.
     ///
-    /// The state has the gate's setting. Its journal is legal, begins with what the pass has seen,
-    /// and has exactly the pass's steps that it has seen. Once all calls at the gate have returned,
-    /// no ticket is out.
+    /// Its journal is legal, and begins with what the pass has seen.
     pub fn close(self, pass: Pass<S>) -> Option<S>
     where
         S: Drop,

@@ -1,4 +1,3 @@
-//! Places for further threads, and numbers for them.
 ghost use Rattle.std.specs.Prelude.{◌≡◌, ◌<◌, ◌≤◌, ℕ, [], IfOk, IfErr};
 ghost use Rattle.ticket_gate.specs.Gate.{IsPassOf, IsSpareOf};
 ghost use Rattle.ticket_gate.specs.declared.refusal.GateRefusal.TheVariants.{Crowded};
@@ -11,7 +10,7 @@ use limits::MAX_PASSES;
 use std::sync::Wait;
 
 impl<S: Recorded> Gate<S> {
-    /// Makes two spare places of one. It takes no memory and never waits.
+    /// Makes two spare places of one. It never waits.
     pub fn split(&self, spare: Spare<S>) -> (Spare<S>, Spare<S>)
         requires { IsSpareOf self.now spare }
         ensures { IsSpareOf self.now result.0 × IsSpareOf self.now result.1 }
@@ -21,11 +20,10 @@ impl<S: Recorded> Gate<S> {
         (Spare { seat }, Spare { seat: other })
     }
 
-    /// Gives a spare place a number from 0 to 255 that no other pass of this gate has. The new pass
-    /// has seen nothing of the journal.
+    /// Gives a spare place a number from 0 to 255 that no other pass of this gate has.
     ///
-    /// It tries again while other threads enrol. If 256 passes are enrolled, it returns `Crowded`
-    /// (1203) with the spare place.
+    /// It tries again while other threads enrol. If 256 passes are enrolled, it returns `Crowded` (1203) with the
+    /// spare place.
     pub fn enrol<R: Wait>(
         &self,
         rt: &R,

@@ -1,4 +1,3 @@
-//! The way into a gate: at once, or with a ticket.
 ghost use Rattle.std.specs.Prelude.{◌≡◌, ◌-◌, ◌*◌, ◌^◌, ◌<◌, ◌≤◌, min, IfOk, IfErr, MatchOption};
 ghost use Rattle.ticket_gate.specs.Gate.{IsAtRest};
 ghost use Rattle.ticket_gate.specs.Visit.{KeepsSeen, MayEnter, HoldsTicket, IsInside};
@@ -11,19 +10,18 @@ use crossbeam_utils::Backoff;
 use std::sync::Wait;
 use std::time::Duration;
 
-/// The most tries to enter at once before a turn sleeps between tries.
+/// The most tries to enter at once before a turn sleeps.
 pub const MAX_TRIES: u32 = 10;
 
 /// The most tries behind a sleep before a turn draws a ticket.
 pub const MAX_SLEEPS: u32 = 12;
 
-/// The microseconds of the first sleep. Each further one is as much longer.
+/// Each further sleep is as much longer.
 const MIN_SLEEP_US: u64 = 50;
 
-/// The most microseconds of a sleep.
 const MAX_SLEEP_US: u64 = 600;
 
-// How many microseconds to sleep behind a number of looks in vain. `None`: it isn't time to sleep yet.
+// `None`: it isn't time to sleep yet.
 fn sleep_us(looks: u32) -> Option<u64>
     ensures { MatchOption result (looks < 10)
         (λ us. (10 ≤ looks) × (us ≡ min (50 * (looks - 9)) 600)) }
@@ -32,17 +30,14 @@ fn sleep_us(looks: u32) -> Option<u64>
     Some((MIN_SLEEP_US * (sleeps as u64 + 1)).min(MAX_SLEEP_US))
 }
 
-/// Why a place didn't enter at once.
 #[derive(Clone, Copy)]
 pub(crate) enum EntryRefusal {
-    /// The ticket served, and the next number to be drawn, which is greater.
+    /// The ticket served, and the next to be drawn.
     Busy { served: u64, drawn: u64 },
-    /// All tickets were drawn.
     Spent,
 }
 
 impl<S: Recorded> Gate<S> {
-    // Enters if nothing holds or awaits the gate, and returns the ticket.
     #[inline(always)]
     pub(crate) fn enter_at_once(&self, seat: &mut GateSeat<S>) -> Result<u64, EntryRefusal>
         requires { MayEnter self.now.id seat.old }
@@ -65,8 +60,8 @@ impl<S: Recorded> Gate<S> {
         Ok(served)
     }
 
-    // Waits behind a look that found this ticket served: at first it spins and yields, and then it sleeps. Who sleeps leaves
-    // the processor to a thread inside that has none. Nobody wakes it: a turn is shorter than a call of the system.
+    // At first it spins and yields, and then it sleeps, which leaves the processor to the thread inside. Nobody
+    // wakes it: a turn is shorter than a call of the system.
     fn pause<R: Wait>(&self, rt: &R, backoff: &Backoff, looks: u32, served: u64) {
         match sleep_us(looks) {
             None => backoff.snooze(),
@@ -78,7 +73,7 @@ impl<S: Recorded> Gate<S> {
         }
     }
 
-    // Tries to enter at once, more and more seldom. `None`: it didn't enter.
+    // It tries more and more seldom. `None`: it didn't enter.
     fn enter_soon<R: Wait>(&self, rt: &R, seat: &mut GateSeat<S>) -> Option<u64>
         requires { MayEnter self.now.id seat.old }
         ensures gate { seat.new.table_id ≡ seat.old.table_id }
@@ -98,7 +93,6 @@ impl<S: Recorded> Gate<S> {
         None
     }
 
-    // Draws a ticket. `None`: all are drawn.
     fn draw<R: Wait>(&self, rt: &R, seat: &mut GateSeat<S>) -> Option<u64>
         requires { MayEnter self.now.id seat.old }
         ensures gate { seat.new.table_id ≡ seat.old.table_id }
@@ -120,7 +114,6 @@ impl<S: Recorded> Gate<S> {
         unreachable!()
     }
 
-    // Waits until the ticket is served.
     fn wait<R: Wait>(&self, rt: &R, seat: &mut GateSeat<S>, ticket: u64)
         requires { (seat.old.table_id ≡ self.now.id)
             × HoldsTicket seat.old.me.0.own ticket seat.old }
@@ -141,7 +134,6 @@ impl<S: Recorded> Gate<S> {
         unreachable!()
     }
 
-    // Enters, and returns the ticket. `None`: all tickets are drawn.
     #[inline(always)]
     pub(crate) fn enter<R: Wait>(&self, rt: &R, seat: &mut GateSeat<S>) -> Option<u64>
         requires { MayEnter self.now.id seat.old }

@@ -1,4 +1,3 @@
-//! The gate, and the places of its threads.
 ghost use Rattle.std.specs.Prelude.{◌≡◌, [], Some, IfOk, IfErr};
 ghost use Rattle.ticket_gate.specs.Gate.{GateFacts, SpareFacts, PassFacts, IsGateSized, IsAtRest, HasNoNumber, IsSpareOf, spare_facts, pass_facts};
 ghost use Rattle.ticket_gate.specs.declared.refusal.GateRefusal.TheVariants.{NoMemory};
@@ -11,29 +10,25 @@ use std::alloc::{AllocFailed, Global};
 use std::marker::Model;
 use std::snapshot::Snapshot;
 
-/// The word that counts the tickets drawn.
 pub(crate) const DRAWN: usize = 0;
 
-/// The word with the ticket served.
 pub(crate) const SERVING: usize = 1;
 
-/// The word that counts the numbers given to passes.
 pub(crate) const ENROLLED: usize = 2;
 
-/// The slot with the state, which is empty only while a place inside works on it.
+/// It is empty only while a place inside works on the state.
 pub(crate) const STATE: usize = 0;
 
-/// The view of a seat at a gate of this state.
 pub type SeatView<S> = View<
     <S as Recorded>::Event,
     <S as Recorded>::Answer,
     <S as Recorded>::Setting,
 >;
 
-/// A seat at the gate's table; a spare one has no number, a pass has one.
+/// A spare seat has no number.
 pub(crate) type GateSeat<S> = Seat<Option<S>, SeatView<S>>;
 
-/// A gate's opening: its state, which takes no bytes here, and its first ticket.
+/// The second number is the first ticket.
 type Opening<S> = (Snapshot<S>, u64);
 
 /// The rule that each atomic step keeps.
@@ -64,7 +59,7 @@ impl<S: Recorded> Model for Gate<S> {
     ghost invariant = { λ g. IsGateSized g.table.shared.table_id };
 }
 
-/// A place at a gate for one thread, without a number. It takes no bytes.
+/// A place at a gate for one thread, without a number.
 #[derive(Drop)]
 pub struct Spare<S: Recorded> {
     pub(crate) seat: GateSeat<S>,
@@ -78,8 +73,7 @@ impl<S: Recorded> Model for Spare<S> {
     ghost invariant = { λ s. IsAtRest s.seat × HasNoNumber s.seat };
 }
 
-/// A place at a gate with a number that no other pass of the gate has. Contracts see its number and
-/// what it has seen of the journal.
+/// A place at a gate with a number that no other pass of the gate has.
 #[derive(Drop)]
 pub struct Pass<S: Recorded> {
     pub(crate) number: u64,
@@ -95,7 +89,7 @@ impl<S: Recorded> Model for Pass<S> {
 }
 
 impl<S: Recorded> Pass<S> {
-    /// The number of the pass, which its steps in the journal have.
+    /// The number of the pass, which its steps have.
     pub fn number(&self) -> u64
         ensures { result ≡ self.now.number }
     {
@@ -104,9 +98,8 @@ impl<S: Recorded> Pass<S> {
 }
 
 impl<S: Recorded> Gate<S> {
-    /// A gate around a state with an empty journal, and its first spare place. Tickets begin at 0.
-    ///
-    /// Where memory is refused it returns `NoMemory` (1204) with the state unchanged.
+    /// A gate around a state with an empty journal, and its first spare place. Refused `NoMemory` (1204), with the
+    /// state.
     pub fn new(alloc: Global, state: S) -> Result<(Gate<S>, Spare<S>), (GateRefusal, S)>
         requires { S.journal state ≡ [] }
         ensures gate { IfOk result (λ made. (made.0.setting ≡ S.setting state)
@@ -118,8 +111,7 @@ impl<S: Recorded> Gate<S> {
         Gate::new_at(alloc, state, 0)
     }
 
-    /// Like `new`, with the first ticket `first`: the spare place has found both words of the
-    /// tickets at that number, below which they never fall. Tickets end before the greatest `u64`.
+    /// Like `new`, with the first ticket `first`. Tickets end before the greatest `u64`.
     pub fn new_at(
         alloc: Global,
         state: S,

@@ -1,4 +1,3 @@
-//! A place inside a gate: its turns, and the way out.
 ghost use Rattle.std.specs.Prelude.{◌≡◌, ◌+◌, ℕ, [], Some};
 ghost use Rattle.ticket_gate.specs.Hold.{ComesIn, IsSeated, held_facts};
 ghost use Rattle.ticket_gate.specs.Rule.{view_of};
@@ -10,11 +9,10 @@ use crate::recorded::Recorded;
 use crate::steps::ServeNext;
 use std::sync::Wait;
 
-/// The most turns that a pass makes inside before it leaves, so that others come in.
+/// The most turns that a pass makes inside before it leaves.
 pub const MAX_TURNS_INSIDE: u32 = 64;
 
 impl<S: Recorded> Gate<S> {
-    // Takes the state out, makes the turn, and puts the state back. The place stays inside.
     #[inline(always)]
     pub(crate) fn turn_inside(
         &self,
@@ -43,7 +41,7 @@ impl<S: Recorded> Gate<S> {
         outcome
     }
 
-    // Serves the next ticket: the place is outside, and has seen all that was done inside.
+    // The place has seen all that was done inside.
     #[inline(always)]
     pub(crate) fn leave(&self, seat: &mut GateSeat<S>, ticket: u64)
         requires gate { seat.old.table_id ≡ self.now.id }
@@ -61,7 +59,6 @@ impl<S: Recorded> Gate<S> {
             .store::<ServeNext>(seat, SERVING, ticket + 1);
     }
 
-    // Enters, unless the place is inside already, and returns the ticket. `None`: all tickets are drawn.
     #[inline(always)]
     pub(crate) fn come_in<R: Wait>(
         &self,
@@ -79,7 +76,6 @@ impl<S: Recorded> Gate<S> {
         }
     }
 
-    // Leaves, unless the place is to stay inside. Returns its ticket, if it stays.
     #[inline(always)]
     pub(crate) fn stay_or_leave(
         &self,

@@ -1,12 +1,9 @@
-//! A ticket lock around a state with a journal of its turns: one legal journal for all threads.
+//! A ticket lock around a state with a journal of its turns.
 //!
-//! A thread's [`Pass`] enters at once if nothing holds or awaits the gate. Otherwise it tries again
-//! for some milliseconds, asleep between most tries; then it draws a ticket and waits until it is
-//! served. It makes one turn of the state and serves the next ticket.
-//! The contracts say more than a mutex's can: each answered turn added one step of its pass to one
-//! legal journal, behind all that this pass had seen. Nothing is promised of order of arrival,
-//! fairness or progress. It stands on `atomic_table` and `journal_core`. Begin with `recorded.rt`,
-//! then `turn.rt`.
+//! A thread's [`Pass`] enters at once if nothing holds or awaits the gate. Otherwise it tries again for some
+//! milliseconds; then it waits with a ticket. Each answered turn added one step of its pass to one legal journal,
+//! behind all that this pass had seen. Nothing is promised of order of arrival, fairness or progress. It stands on
+//! `atomic_table` and `journal_core`. Begin with `recorded.rt`, then `turn.rt`.
 #![tactic(auto)]
 
 mod alone;

@@ -1,14 +1,11 @@
-//! A state that keeps a journal of its turns.
 ghost use Rattle.std.specs.Prelude.{◌≡◌, List, [], ◌∷◌, ◌++◌, IfOk, IfErr};
 ghost use Rattle.journal_core.specs.declared.step.Step.{Step as StepOf};
 ghost use Rattle.journal_core.specs.Journal.{step_by};
 
-/// A state that changes in turns and keeps a journal of them. A step is the number of the pass that
-/// made the turn, the event and the answer.
+/// A state that changes in turns and keeps a journal of them.
 ///
-/// An answered turn adds exactly its own step, and the journal stays one that the setting allows. A
-/// refused turn leaves the journal unchanged, hands the event back, and its cause holds. No turn
-/// changes the setting. A sight of the state is a function of its setting and its journal.
+/// An answered turn adds exactly its own step. A refused one leaves the journal unchanged, and hands the event
+/// back.
 pub trait Recorded {
     /// The event of a turn.
     type Event;
@@ -19,7 +16,7 @@ pub trait Recorded {
     /// Why the state refuses a turn.
     type Refusal;
 
-    /// What the state was made with; no turn changes it.
+    /// What the state was made with.
     type Setting;
 
     /// The result of a look at the state.

@@ -1,4 +1,3 @@
-//! Why a gate refuses a pass or a turn.
 ghost use Rattle.std.specs.Prelude.{◌≡◌};
 ghost use Rattle.ticket_gate.specs.Refusal.{gate_number, turn_number};
 
@@ -28,18 +27,17 @@ impl GateRefusal {
     }
 }
 
-/// Why a turn wasn't made. Each case hands the event back.
+/// Why a turn wasn't made. The event comes back.
 #[derive(Debug, Drop, Error)]
 #[error_bound(R: Display)]
 pub enum TurnRefusal<R, E> {
-    /// 1201: another pass holds or awaits the gate. `served` is the ticket served, and `drawn` the
-    /// next one to be drawn, which is greater.
+    /// 1201: another pass holds or awaits the gate. `served` is the ticket served, `drawn` the next to be drawn.
     #[error("the gate is busy: ticket {served} is served, and the next to be drawn is {drawn}")]
     Busy { served: u64, drawn: u64, event: E },
-    /// 1202: all tickets were drawn. The greatest `u64` is never a ticket.
+    /// 1202: all tickets were drawn.
     #[error("the gate has no ticket left")]
     Spent { event: E },
-    /// The state refused the turn. This case has no number of the gate's.
+    /// The state refused the turn.
     #[error("{cause}")]
     State { cause: R, event: E },
 }

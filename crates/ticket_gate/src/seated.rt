@@ -1,4 +1,3 @@
-//! Turns of a pass at a gate.
 ghost use Rattle.std.specs.Prelude.{◌≡◌, ◌≢◌, ◌⊎◌, ◌+◌, ◌-◌, ◌^◌, ◌<◌, ◌≤◌, true, false, Ok, Err, MatchResult};
 ghost use Rattle.ticket_gate.specs.Gate.{IsPassOf};
 ghost use Rattle.ticket_gate.specs.Turns.{seated_at};
@@ -14,16 +13,15 @@ use std::sync::Wait;
 
 /// A pass at its gate, for a worker.
 ///
-/// Each turn enters and leaves, unless `hold` was called: then the pass stays inside until `leave`, or
-/// until it has made [`MAX_TURNS_INSIDE`](crate::MAX_TURNS_INSIDE) turns. Others wait meanwhile.
-/// Whether it is inside makes no difference to contracts: they see what the pass has seen.
+/// Each turn enters and leaves, unless `hold` was called: then the pass stays inside until `leave`, or for
+/// [`MAX_TURNS_INSIDE`](crate::MAX_TURNS_INSIDE) turns. Contracts don't see whether it is inside.
 pub struct Seated<'a, S: Recorded> {
     gate: &'a Gate<S>,
     number: u64,
     seat: GateSeat<S>,
-    // The ticket with which the pass is inside.
+    // None outside.
     ticket: Option<u64>,
-    // Whether it stays inside after a turn, and the turns since it came in.
+    // Whether it stays inside after a turn, and its turns inside.
     holds: bool,
     turns: u32,
 }
@@ -40,7 +38,7 @@ impl<'a, S: Recorded> Model for Seated<'a, S> {
         s.gate.now s.number s.ticket s.seat };
 }
 
-// A pass that is dropped leaves the gate: else nobody could enter any more.
+// A dropped pass leaves the gate: else nobody could enter any more.
 impl<S: Recorded> Drop for Seated<'_, S> {
     fn drop(self) {
         let Seated {
@@ -74,7 +72,7 @@ impl<'a, S: Recorded> Seated<'a, S> {
         }
     }
 
-    /// The pass, with everything that it has seen. It leaves the gate, if it is inside.
+    /// The pass, which leaves the gate.
     pub fn into_pass(self) -> Pass<S>
         ensures pass { result ≡ self.entry.pass }
         ensures gate { IsPassOf self.entry.gate result }
@@ -93,15 +91,14 @@ impl<'a, S: Recorded> Seated<'a, S> {
         Pass { number, seat }
     }
 
-    /// From here on a turn leaves the pass inside the gate, where the next turn needn't enter. The
-    /// caller should `leave` before it waits for anything.
+    /// From here on a turn leaves the pass inside. The caller should `leave` before it waits for anything.
     pub fn hold(&mut self)
         ensures { self.new ≡ self.old }
     {
         self.holds = true;
     }
 
-    /// Leaves the gate, if the pass is inside. From here on each turn leaves it too.
+    /// Leaves the gate, as each turn does from here on.
     pub fn leave(&mut self)
         ensures { self.new ≡ self.old }
     {
@@ -119,11 +116,7 @@ impl<'a, S: Recorded> Seated<'a, S> {
     ghost use Rattle.ticket_gate.specs.Journal.{GrowsByOthers};
     ghost use Rattle.ticket_gate.specs.declared.refusal.TurnRefusal.TheVariants.{Spent};
 
-    /// Looks at the state inside the gate, as `Gate::sight` does, and adds no step to its journal.
-    /// Afterwards the pass is outside.
-    ///
-    /// Answered: the sight is that of the journal that the pass now sees. Refused only `Spent`
-    /// (1202), once all tickets were drawn: the pass has seen nothing new.
+    /// Looks at the state, as `Gate::sight` does. Afterwards the pass is outside. Refused only `Spent` (1202).
     pub fn sight<R: Wait>(&mut self, rt: &R) -> Result<S::Sight, TurnRefusal<S::Refusal, ()>>
         ensures gate { self.new.gate ≡ self.old.gate }
         ensures same { IsSamePass self.old.pass self.new.pass }
@@ -191,7 +184,7 @@ impl<'a, S: Recorded> Turns for Seated<'a, S> {
     }
 }
 
-// The number of turns inside after one more. 0: the pass leaves.
+// 0: the pass leaves.
 fn turns_inside(turns: u32, holds: bool) -> u32
     ensures stays { result ≢ 0 → (holds ≡ true) × (result ≡ turns + 1) × (result < 64) }
     ensures leaves { result ≡ 0 → (holds ≡ false) ⊎ (64 ≤ turns + 1) }
@@ -204,7 +197,6 @@ fn turns_inside(turns: u32, holds: bool) -> u32
     }
 }
 
-// The state's answer, or its refusal as the gate tells it.
 fn told_by_state<A, C, E>(outcome: Result<A, (C, E)>) -> Result<A, TurnRefusal<C, E>>
     ensures { MatchResult outcome (λ answer. result ≡ Ok answer)
         (λ refused. result ≡ Err (State refused.0 refused.1)) }

@@ -1,4 +1,3 @@
-//! Looks at the state inside a gate.
 ghost use Rattle.std.specs.Prelude.{◌≡◌, ◌+◌, ◌-◌, ◌^◌, ℕ, [], IfOk, IfErr, OnOk};
 ghost use Rattle.ticket_gate.specs.Gate.{IsPassOf, IsSamePass};
 ghost use Rattle.ticket_gate.specs.Journal.{GrowsByOthers};
@@ -13,7 +12,6 @@ use crate::refusal::TurnRefusal;
 use std::sync::Wait;
 
 impl<S: Recorded> Gate<S> {
-    // Looks at the state, and serves the next ticket.
     pub(crate) fn look(&self, seat: &mut GateSeat<S>, ticket: u64) -> S::Sight
         requires gate { seat.old.table_id ≡ self.now.id }
         requires holds { (n : ℕ) × IsHolding S.journal S.setting S.legal
@@ -38,12 +36,10 @@ impl<S: Recorded> Gate<S> {
         sight
     }
 
-    /// Looks at the state, and adds no step to its journal. It enters and leaves as `take_turn`
-    /// does.
+    /// Looks at the state, and adds no step. It enters and leaves as `take_turn` does.
     ///
-    /// Answered: the sight is that of the journal that the pass now sees, which is legal, begins
-    /// with what it saw before, and has no further step of it. Refused only `Spent` (1202), once
-    /// all tickets were drawn: the pass has seen nothing new.
+    /// The sight is that of the journal that the pass now sees. Refused only `Spent` (1202): the pass has seen
+    /// nothing new.
     pub fn sight<R: Wait>(
         &self,
         rt: &R,

@@ -1,4 +1,3 @@
-//! Turns at a gate.
 ghost use Rattle.std.specs.Prelude.{◌≡◌, ◌+◌, ◌^◌, ◌<◌, Some, IfOk, IfErr};
 ghost use Rattle.ticket_gate.specs.Gate.{IsPassOf, IsSamePass};
 ghost use Rattle.ticket_gate.specs.Visit.{IsInside, HasMadeTurn};
@@ -12,8 +11,7 @@ use crate::refusal::TurnRefusal;
 use std::sync::Wait;
 
 impl<S: Recorded> Gate<S> {
-    // Makes the turn, which puts the state back, and only then serves the next ticket: another order would let a second
-    // thread in to an empty slot.
+    // The turn puts the state back before the next ticket is served: else a second thread would find an empty slot.
     #[inline(always)]
     fn work(
         &self,
@@ -35,14 +33,12 @@ impl<S: Recorded> Gate<S> {
         outcome
     }
 
-    /// Makes one turn: tries to enter at once, like `try_turn`, up to
-    /// [`MAX_TRIES`](crate::MAX_TRIES) times, and [`MAX_SLEEPS`](crate::MAX_SLEEPS) times more
-    /// behind short sleeps; then draws a ticket and waits until it is served.
+    /// Makes one turn: tries to enter at once up to [`MAX_TRIES`](crate::MAX_TRIES) times, and
+    /// [`MAX_SLEEPS`](crate::MAX_SLEEPS) times more behind sleeps; then waits with a ticket.
     ///
-    /// Answered: the pass now sees a legal journal, which begins with what it saw before and ends
-    /// with its step. Refused `Spent` (1202), once all tickets were drawn: the pass has seen
-    /// nothing new. Refused `State`: the journal has no step of this turn, and the state's cause
-    /// holds over what the pass now sees. Each refusal hands the event back. It is never `Busy`.
+    /// Answered: the pass now sees a legal journal, which ends with its step. Refused `Spent` (1202) once all
+    /// tickets are drawn: the pass has seen nothing new. Refused `State`: the state's cause holds. It is never
+    /// `Busy`.
     #[inline(always)]
     pub fn take_turn<R: Wait>(
         &self,
@@ -69,8 +65,7 @@ impl<S: Recorded> Gate<S> {
 
     /// Makes one turn if nothing holds or awaits the gate. It never waits.
     ///
-    /// Answered and refused like `take_turn`, and `Busy` (1201) if more tickets were drawn than
-    /// served. `Busy` has the two numbers that it found, and the pass has seen nothing new.
+    /// Refused like `take_turn`, or `Busy` (1201): the pass has seen nothing new.
     pub fn try_turn(
         &self,
         pass: &mut Pass<S>,

@@ -1,4 +1,3 @@
-//! Turns of a state, whether it is shared or not.
 ghost use Rattle.std.specs.Prelude.{◌≡◌, ℕ, List, IfOk, IfErr};
 ghost use Rattle.journal_core.specs.declared.step.Step.{Step as StepOf};
 ghost use Rattle.ticket_gate.specs.Journal.{AddsTurn};
@@ -7,8 +6,8 @@ ghost use Rattle.ticket_gate.specs.Turns.{RefusesTurn};
 use crate::refusal::TurnRefusal;
 use std::sync::Wait;
 
-/// Turns of one pass, whether others make turns too or not. [`Seated`](crate::Seated) makes them at
-/// a gate, [`Alone`](crate::Alone) on a state of its own.
+/// Turns of one pass: [`Seated`](crate::Seated) makes them at a gate, [`Alone`](crate::Alone) on a state of its
+/// own.
 pub trait Turns {
     /// The event of a turn.
     type Event;
@@ -19,22 +18,22 @@ pub trait Turns {
     /// Why the state refuses a turn.
     type Refusal;
 
-    /// What the state was made with; no turn changes it.
+    /// What the state was made with.
     type Setting;
 
     /// The place of the turns.
     type Home;
 
-    /// The place of the turns: the gate of a pass at one. No turn changes it.
+    /// The place of the turns.
     ghost home: { Self → Self.Home };
 
-    /// The number of the pass. No turn changes it.
+    /// The number of the pass.
     ghost pass: { Self → ℕ };
 
     /// The journal as far as the pass has seen it.
     ghost seen: { Self → List (StepOf Self.Event Self.Answer) };
 
-    /// What the state was made with. No turn changes it.
+    /// What the state was made with.
     ghost setting: { Self → Self.Setting };
 
     /// The journals that a setting allows.
@@ -44,15 +43,13 @@ pub trait Turns {
     ghost cause: { Self.Setting → Self.Refusal → Self.Event → List (StepOf Self.Event Self.Answer)
         → Type 0 };
 
-    /// What holds after a turn was refused because no ticket is left.
+    /// What holds once no ticket is left.
     ghost spent: { Self → Type 0 };
 
     /// Makes one turn, and waits for it while others hold or await the state.
     ///
-    /// Answered: the pass now sees a legal journal, which begins with what it saw before and ends
-    /// with its step. Refused `Spent` (1202): no ticket is left, and the pass has seen nothing new.
-    /// Refused `State`: the state's cause holds over what the pass now sees, which has no further
-    /// step of it. Each refusal hands the event back. It is never `Busy`.
+    /// Answered: the pass now sees a legal journal, which ends with its step. Refused `Spent` (1202): the pass has
+    /// seen nothing new. Refused `State`: the state's cause holds. It is never `Busy`.
     fn turn<R: Wait>(
         &mut self,
         rt: &R,

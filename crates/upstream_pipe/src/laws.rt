@@ -1,4 +1,3 @@
-//! The limit of a pipe, as the contract of a function that does nothing.
 ghost use Rattle.std.specs.Prelude.{◌≡◌};
 
 use limits::MAX_WAITING;

@@ -1,8 +1,7 @@
 //! One host's pipeline: which reply belongs to which part.
 //!
-//! Parts wait in order, are sent in order, and a host answers them in order (RESP2 pipelining). So the k-th reply of an
-//! epoch belongs to the k-th part sent in it, whatever was forgotten in between. A fault of the host ends its epoch;
-//! replies of an older epoch are refused. It stands on `bytes` and `limits`. Begin with `pipe.rt`.
+//! Parts are sent and answered in order (RESP2 pipelining). So the k-th reply of an epoch belongs to the k-th part
+//! sent in it. A fault ends the epoch. It stands on `bytes` and `limits`. Begin with `pipe.rt`.
 #![tactic(auto)]
 
 mod laws;

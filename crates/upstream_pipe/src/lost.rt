@@ -1,11 +1,9 @@
-//! The parts that a fault of a host leaves without a reply.
-
 use crate::part::Owner;
 
 /// The parts that a fault left without a reply, in their order.
 #[derive(Debug, Drop)]
 pub struct Lost {
-    /// The sent ones; `None` in the place of a forgotten one.
+    /// The sent ones; `None` for a forgotten one.
     pub flying: Vec<Option<Owner>>,
     /// The waiting ones.
     pub waiting: Vec<Owner>,

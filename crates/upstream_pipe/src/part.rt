@@ -1,23 +1,21 @@
-//! Parts of commands, and their owners.
-
 use bytes::Bytes;
 
-/// The owner of a part: its number, counted from 0, in a command of a connection.
+/// The owner of a part. Commands and parts are numbered from 0.
 #[derive(Clone, Copy, Debug, PartialEq, Eq, Hash)]
 pub struct Owner {
     /// The connection's number.
     pub conn: u64,
-    /// The command's number in its connection, counted from 0.
+    /// The command's number in its connection.
     pub command: u64,
-    /// The part's number in its command, counted from 0.
+    /// The part's number in its command.
     pub part: u32,
 }
 
-/// A part of a command, on its way to a host.
+/// A part of a command.
 #[derive(Drop)]
 pub struct Part {
     /// Its owner.
     pub owner: Owner,
-    /// The text for the host.
+    /// The text for its host.
     pub text: Bytes,
 }

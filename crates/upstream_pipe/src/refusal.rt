@@ -1,4 +1,3 @@
-//! Why a call of a pipe is refused.
 ghost use Rattle.std.specs.Prelude.{◌≡◌};
 ghost use Rattle.upstream_pipe.specs.declared.refusal.PipeRefusal.TheVariants.{NoMemory};
 
@@ -14,13 +13,13 @@ pub enum PipeRefusal {
     /// 602: 1,024 parts wait.
     #[error("1024 parts wait already")]
     Full,
-    /// 603: the given epoch isn't the pipe's, which is `current`.
+    /// 603: the given epoch isn't the pipe's `current`.
     #[error("the epoch is over: it is {current} now")]
     Stale { current: u64 },
     /// 604: a reply came, and no part flies.
     #[error("a reply that nobody asked for")]
     Unasked,
-    /// 605: the epoch is the greatest `u64`, so no further one can begin.
+    /// 605: the epoch is the greatest `u64`.
     #[error("no further epoch is left")]
     EpochsSpent,
 }
@@ -28,7 +27,7 @@ pub enum PipeRefusal {
 impl PipeRefusal {
     ghost use Rattle.upstream_pipe.specs.Refusal.{number_of};
 
-    /// The number by which the refusal is documented, 601 to 605.
+    /// 601 to 605.
     pub fn number(self) -> u16
         ensures { result ≡ number_of self }
     {

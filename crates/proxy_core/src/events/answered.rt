@@ -1,4 +1,3 @@
-//! A host answers.
 ghost use Rattle.std.specs.Prelude.{◌≡◌, ◌<◌, ◌⊎◌, ◌∷◌, Some, List, length, IfOk, IfErr, OnOk};
 ghost use Rattle.journal_core.specs.Journal.{IsFull};
 ghost use Rattle.resp_core.specs.Value.{tree_of};
@@ -22,7 +21,6 @@ use proxy_history::{Answer, Event, Refusal};
 use resp_core::Value;
 
 impl Machine {
-    /// A turn in which a host answers.
     #[inline(always)]
     pub(crate) fn turn_answered(
         &mut self,

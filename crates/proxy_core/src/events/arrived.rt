@@ -45,7 +45,6 @@ use std::alloc::AllocError;
 use std::slice;
 
 impl Machine {
-    /// A turn in which a request arrives.
     #[inline(always)]
     pub(crate) fn turn_arrived(
         &mut self,
@@ -83,7 +82,6 @@ impl Machine {
         })
     }
 
-    // Accepts the command, with room for its step.
     fn accept(&mut self, conn: u64, request: &Request, bytes: u64) -> Result<Accepted, Refusal>
         requires kept { IsKept self.old }
         requires bytes { bytes ≡ told_offset (length_of_request request.now) }
@@ -130,7 +128,6 @@ impl Machine {
         }
     }
 
-    // Accepts a command with this plan.
     fn accept_plan(&mut self, conn: u64, plan: Planned<'_>) -> Result<Accepted, Refusal>
         requires pipelines { length self.old.pipelines.states ≡ hosts (setting_in self.old) }
         requires hosts { self.old.ejector.rules.hosts ≡ self.old.ring.hosts }
@@ -150,7 +147,6 @@ impl Machine {
         }
     }
 
-    // Accepts a command that the proxy answers itself.
     fn accept_value(
         &mut self,
         conn: u64,
@@ -169,7 +165,6 @@ impl Machine {
         Ok(Accepted::own(index, name))
     }
 
-    // Accepts a command that goes whole to the host of its key.
     fn accept_whole(&mut self, conn: u64, key: &[u8], text: Bytes) -> Result<Accepted, Refusal>
         requires pipelines { length self.old.pipelines.states ≡ hosts (setting_in self.old) }
         requires hosts { self.old.ejector.rules.hosts ≡ self.old.ring.hosts }
@@ -234,7 +229,6 @@ impl Machine {
         self.place_at(usable, counts, 0, self.point_of(key), text)
     }
 
-    // Accepts a command with these parts.
     fn accept_list(&mut self, conn: u64, how: Join, list: PartPlans) -> Result<Accepted, Refusal>
         requires pipelines { length self.old.pipelines.states ≡ hosts (setting_in self.old) }
         requires hosts { self.old.ejector.rules.hosts ≡ self.old.ring.hosts }
@@ -281,7 +275,6 @@ impl Machine {
         self.place_all(usable, counts, list)
     }
 
-    // Places the parts among the usable hosts.
     fn place_all(
         &self,
         usable: &[bool],
@@ -310,7 +303,6 @@ impl Machine {
         Ok(placed)
     }
 
-    // Places the next part.
     fn place_one(&self, usable: &[bool], counts: &mut [u16], number: u32, plan: PartPlan) -> Placed
         requires pipelines { length self.now.pipelines.states ≡ self.now.ring.hosts }
         requires usable { length usable.now ≡ self.now.ring.hosts }
@@ -332,14 +324,12 @@ impl Machine {
         self.place_at(usable, counts, number, point, plan.text)
     }
 
-    // The point of a key on the ring.
     fn point_of(&self, key: &[u8]) -> u32
         ensures { result ≡ point_of key.now self.now.ejector.rules.settings.tags }
     {
         point_of_key(key, self.ejector.rules().settings.tags)
     }
 
-    // Places the next part, whose key has this point.
     fn place_at(
         &self,
         usable: &[bool],

@@ -1,4 +1,3 @@
-//! A connection is closed.
 ghost use Rattle.std.specs.Prelude.{ℕ, ◌≡◌, ◌<◌, ◌+◌, ◌^◌, map, IfOk, IfErr};
 ghost use Rattle.proxy_history.specs.declared.answer.Answer.TheVariants as answers;
 ghost use Rattle.proxy_history.specs.declared.event.Event.TheVariants as events;
@@ -15,7 +14,6 @@ use crate::state::pipelines::Pipelines;
 use proxy_history::{Answer, Event, Refusal};
 
 impl Machine {
-    /// A turn in which a connection is closed.
     pub(crate) fn turn_closed(&mut self, pass: u64, conn: u64) -> Result<Answer, Refused>
         requires { IsKept self.old }
         ensures answered { IfOk result (λ a. IsMade self.old self.new pass (events.Closed conn) a) }

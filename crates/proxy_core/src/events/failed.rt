@@ -1,4 +1,3 @@
-//! A host fails.
 ghost use Rattle.std.specs.Prelude.{◌≡◌, ◌<◌, ◌+◌, ◌-◌, ◌^◌, ◌++◌, length, map, IfOk, IfErr, OnOk, List};
 ghost use Rattle.ejector.specs.declared.mark.Mark.{Mark};
 ghost use Rattle.ejector.specs.State.{State};
@@ -23,7 +22,6 @@ use proxy_history::{Answer, Event, Kind, Refusal};
 use upstream_pipe::Lost;
 
 impl Machine {
-    /// A turn in which a host fails.
     pub(crate) fn turn_failed(
         &mut self,
         pass: u64,

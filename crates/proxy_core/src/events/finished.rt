@@ -11,7 +11,6 @@ use crate::refused::Refused;
 use proxy_history::{Answer, Event, Refusal};
 
 impl Machine {
-    /// A turn in which a connection finishes.
     pub(crate) fn turn_finished(&mut self, pass: u64, conn: u64) -> Result<Answer, Refused>
         requires { IsKept self.old }
         ensures answered { IfOk result

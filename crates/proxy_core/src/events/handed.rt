@@ -1,4 +1,3 @@
-//! A reply is handed out.
 ghost use Rattle.std.specs.Prelude.{◌≡◌, length, Some, IfOk, IfErr, IfSome, IsSome, IsTrue, OnErr};
 ghost use Rattle.std.specs.Option.{option_map};
 ghost use Rattle.resp_core.specs.Text.{text};
@@ -20,7 +19,6 @@ use resp_core::{Texts, Value};
 use std::alloc::AllocError;
 
 impl Machine {
-    /// A turn in which a reply is handed out.
     #[inline(always)]
     pub(crate) fn turn_handed(&mut self, pass: u64, conn: u64) -> Result<Answer, Refused>
         requires { IsKept self.old }
@@ -107,7 +105,6 @@ fn front_text(texts: &mut Texts, queue: &Queue) -> Result<Option<Bytes>, AllocEr
     }
 }
 
-// The text of a reply, which must be plain.
 fn some_text(texts: &mut Texts, reply: &Value) -> Result<Option<Bytes>, AllocError>
     requires plain { IsTrue (is_plain_tree (tree_of reply.now)) }
     ensures text { IfOk result (λ o. o ≡ Some (text (tree_of reply.now))) }

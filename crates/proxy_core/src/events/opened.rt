@@ -1,4 +1,3 @@
-//! A connection is opened.
 ghost use Rattle.std.specs.Prelude.{◌≡◌, ◌++◌, ◌∷◌, [], Some, length, IfOk, IfErr};
 ghost use Rattle.proxy_history.specs.declared.answer.Answer.TheVariants as answers;
 ghost use Rattle.proxy_history.specs.declared.event.Event.TheVariants as events;
@@ -12,7 +11,6 @@ use limits::MAX_CONNECTIONS;
 use proxy_history::{Answer, Event, Refusal};
 
 impl Machine {
-    /// A turn in which a connection is opened.
     pub(crate) fn turn_opened(&mut self, pass: u64) -> Result<Answer, Refused>
         requires { IsKept self.old }
         ensures answered { IfOk result (λ a. IsMade self.old self.new pass events.Opened a) }

@@ -15,7 +15,6 @@ use ejector::{Ejector, Swept};
 use proxy_history::{Answer, Event, Refusal};
 
 impl Machine {
-    /// A turn in which the hosts are swept.
     pub(crate) fn turn_swept(&mut self, pass: u64, t: u64) -> Result<Answer, Refused>
         requires { IsKept self.old }
         ensures answered { IfOk result (λ a. IsMade self.old self.new pass (events.Swept t) a) }
@@ -25,7 +24,6 @@ impl Machine {
         self.settle(pass, Event::Swept { t }, done)
     }
 
-    /// Sweeps the hosts.
     pub(crate) fn sweep(&mut self, t: u64) -> Result<Done, Refusal>
         ensures done { IfOk result (λ d. IsDone self.old self.new (events.Swept t) d
             (record (memory_in self.old) { hosts = self.new.ejector.state })) }
@@ -48,7 +46,6 @@ impl Machine {
     }
 }
 
-// Sweeps the hosts.
 fn swept(ejector: &mut Ejector, t: u64) -> Swept
     ensures state { (O : State) (marks : List Mark)
         → state ejector.old.rules O marks ≡ ejector.old.state
@@ -64,7 +61,6 @@ fn swept(ejector: &mut Ejector, t: u64) -> Swept
     }
 }
 
-// The answer to a sweep with this result.
 fn counts_of(hosts: Swept) -> Answer
     ensures { result ≡ counts_of hosts }
 {

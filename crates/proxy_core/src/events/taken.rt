@@ -1,4 +1,3 @@
-//! A part is sent to its host.
 ghost use Rattle.std.specs.Prelude.{◌≡◌, ◌<◌, ◌+◌, ◌^◌, ◌≢◌, [], length, IfOk, IfErr, OnOk};
 ghost use Rattle.proxy_history.specs.Setting.{hosts};
 ghost use Rattle.proxy_history.specs.declared.answer.Answer.TheVariants as answers;
@@ -14,7 +13,6 @@ use proxy_history::{Answer, Event, Refusal};
 use upstream_pipe::Part;
 
 impl Machine {
-    /// A turn in which a part is taken.
     #[inline(always)]
     pub(crate) fn turn_taken(&mut self, pass: u64, host: usize) -> Result<Answer, Refused>
         requires { IsKept self.old }

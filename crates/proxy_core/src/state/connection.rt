@@ -1,4 +1,3 @@
-//! An open connection.
 ghost use Rattle.std.specs.Prelude.{◌≡◌, ◌+◌, ◌-◌, ◌^◌, ◌<◌, ◌++◌, ◌∷◌, [], Some, length, map, IfOk, IfErr, OnOk};
 ghost use Rattle.resp_core.specs.Value.{tree_of};
 ghost use Rattle.reply_queue.specs.Queue.{IsOpen};
@@ -23,7 +22,6 @@ pub(crate) struct Connection {
 }
 
 impl Connection {
-    /// A new connection.
     pub(crate) fn new(alloc: Global) -> Connection
         ensures { result ≡ fresh_connection }
     {

@@ -1,4 +1,3 @@
-//! The connections by their numbers.
 ghost use Rattle.std.specs.Prelude.{◌≡◌, ◌+◌, ◌-◌, ◌^◌, ◌<◌, ◌++◌, ◌∷◌, [], false, Some, None, length, map, is_some, IsSome, filter_map, IfOk, IfErr, OnOk, OnErr};
 ghost use Rattle.std.specs.Option.{option_copied, option_map};
 ghost use Rattle.resp_core.specs.Value.{tree_of};
@@ -19,9 +18,8 @@ use std::alloc::{AllocError, Global};
 use std::marker::Model;
 use upstream_pipe::{Lost, Owner};
 
-/// The connections by their numbers, which count from 0 in the order of opening.
-///
-/// Contracts see each open one, `None` in the place of a closed one, and the number of closed ones.
+/// The connections by their numbers, which count from 0 in the order of opening: `None` in the place of a closed
+/// one.
 #[derive(Drop)]
 pub(crate) struct Connections {
     alloc: Global,
@@ -43,7 +41,6 @@ impl Model for Connections {
 }
 
 impl Connections {
-    /// No connection was opened.
     pub(crate) fn new(alloc: Global) -> Connections
         ensures { result ≡ record { numbered = []; closed = 0 } }
     {
@@ -54,7 +51,6 @@ impl Connections {
         }
     }
 
-    /// The connection of this number, if it is open.
     pub(crate) fn get(&self, conn: u64) -> Option<&Connection>
         ensures { option_copied result ≡ connection_at conn self.now.numbered }
     {
@@ -64,7 +60,6 @@ impl Connections {
         }
     }
 
-    /// The number of open connections.
     pub(crate) fn open_count(&self) -> usize
         ensures { result ≡ length self.now.numbered - self.now.closed }
     {
@@ -118,7 +113,6 @@ impl Connections {
         }
     }
 
-    /// Closes the connection, and drops its queue.
     pub(crate) fn close(&mut self, conn: u64)
         requires { self.old.closed + 1 < 2 ^ 64 }
         ensures { self.new ≡ record {
@@ -160,7 +154,6 @@ impl Connections {
         }
     }
 
-    // Gives a part that has no value its value.
     fn answer_part(&mut self, owner: Owner, value: Value)
         requires { IsAwaited owner self.old.numbered }
         ensures { self.new ≡ record self.old {
@@ -186,7 +179,6 @@ impl Connections {
         self.fail_parts(&lost.waiting);
     }
 
-    // Gives each of these parts the failure of its host.
     fn fail_parts(&mut self, owners: &[Owner])
         requires { AreAwaited owners.now upstream_failure self.old.numbered }
         ensures { self.new ≡ record self.old {
@@ -255,7 +247,6 @@ impl Connections {
 
 // The functions below work on one slot, so that a proof has that alone and not the list.
 
-// Finishes the connection, if it is open.
 fn finish_one(connection: &mut Option<Connection>)
     ensures { connection.new ≡ option_map finished_connection connection.old }
 {
@@ -264,7 +255,6 @@ fn finish_one(connection: &mut Option<Connection>)
     }
 }
 
-// Drops what the connection kept.
 fn close_one(connection: &mut Option<Connection>)
     ensures { connection.new ≡ None }
 {
@@ -281,7 +271,6 @@ fn hand_one(connection: &mut Option<Connection>)
     }
 }
 
-// Gives a part of the connection its value, if that is open.
 fn answer_one(connection: &mut Option<Connection>, owner: Owner, value: Value)
     requires { IsAwaitedIn connection.old owner }
     ensures { connection.new ≡ option_map (with_answer owner (tree_of value)) connection.old }
@@ -292,7 +281,6 @@ fn answer_one(connection: &mut Option<Connection>, owner: Owner, value: Value)
     }
 }
 
-// Accepts a command of the connection, which must be open.
 fn accept_one(
     connection: &mut Option<Connection>,
     how: Join,
@@ -314,7 +302,6 @@ fn accept_one(
     }
 }
 
-// Accepts a command of the connection, which must be open.
 fn accept_own_one(
     connection: &mut Option<Connection>,
     value: Value,

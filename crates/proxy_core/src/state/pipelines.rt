@@ -1,4 +1,3 @@
-//! The pipes by the numbers of their hosts.
 ghost use Rattle.std.specs.Prelude.{◌≡◌, ◌≢◌, ℕ, ◌+◌, ◌-◌, ◌<◌, ◌≤◌, ◌^◌, [], length, map, get_or, slice_get, replicate, IfSome, IfNone, IfOk, IfErr, OnOk, OnErr};
 ghost use Rattle.std.specs.Option.{option_copied};
 ghost use Rattle.upstream_pipe.specs.Pipe.{owner_in};
@@ -14,8 +13,6 @@ use std::marker::Model;
 use upstream_pipe::{Lost, Owner, Part, Pipe, PipeRefusal};
 
 /// The pipes by the numbers of their hosts, which count from 0.
-///
-/// Contracts see the state of each, and the number of further parts that it has room for.
 #[derive(Drop)]
 pub(crate) struct Pipelines {
     by_host: Vec<Pipe>,
@@ -30,7 +27,6 @@ impl Model for Pipelines {
 }
 
 impl Pipelines {
-    /// A new pipe for each host.
     pub(crate) fn new(alloc: Global, hosts: usize) -> Result<Pipelines, AllocError>
         ensures { IfOk result (λ p. p.states ≡ replicate hosts no_pipeline) }
     {
@@ -41,14 +37,12 @@ impl Pipelines {
         Ok(Pipelines { by_host })
     }
 
-    /// The number of hosts.
     pub(crate) fn len(&self) -> usize
         ensures { result ≡ length self.now.states }
     {
         self.by_host.len()
     }
 
-    /// The epoch of a host.
     pub(crate) fn epoch(&self, host: usize) -> u64
         requires { host < length self.now.states }
         ensures { result ≡ (pipeline_at host self.now.states).epoch }
@@ -56,7 +50,6 @@ impl Pipelines {
         self.by_host[host].epoch()
     }
 
-    /// The number of parts that wait for a host.
     pub(crate) fn waiting(&self, host: usize) -> usize
         requires { host < length self.now.states }
         ensures { result ≡ length (pipeline_at host self.now.states).waiting }
@@ -64,7 +57,6 @@ impl Pipelines {
         self.by_host[host].waiting()
     }
 
-    /// The number of parts that fly to a host.
     pub(crate) fn flying(&self, host: usize) -> usize
         requires { host < length self.now.states }
         ensures { result ≡ length (pipeline_at host self.now.states).flying }
@@ -83,7 +75,6 @@ impl Pipelines {
         }
     }
 
-    /// The number of parts taken for a host in its epoch.
     pub(crate) fn taken(&self, host: usize) -> u64
         requires { host < length self.now.states }
         ensures { result ≡ (pipeline_at host self.now.states).taken }
@@ -91,7 +82,6 @@ impl Pipelines {
         self.by_host[host].taken()
     }
 
-    /// The oldest part that waits for a host, if there is one.
     pub(crate) fn oldest(&self, host: usize) -> Option<&Part>
         requires { host < length self.now.states }
         ensures { option_copied result ≡ slice_get (pipeline_at host self.now.states).waiting 0 }
@@ -164,7 +154,6 @@ impl Pipelines {
         }
     }
 
-    /// Takes the oldest part that waits for a host, if there is one.
     pub(crate) fn take(&mut self, host: usize) -> Option<Part>
         requires host { host < length self.old.states }
         requires taken { (pipeline_at host self.old.states).taken + 1 < 2 ^ 64 }
@@ -217,7 +206,6 @@ impl Pipelines {
         }
     }
 
-    // Forgets a closed connection's parts for one host.
     fn forget_at(&mut self, host: usize, conn: u64)
         requires { host < length self.old.states }
         ensures { self.new.states ≡ with_pipeline (without_connection conn) host self.old.states }

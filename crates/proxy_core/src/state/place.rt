@@ -1,4 +1,3 @@
-//! The places of a command's parts at its arrival.
 ghost use Rattle.std.specs.Prelude.{◌≡◌, ◌<◌, Some, None, length, map, count_by, IfSome};
 ghost use Rattle.std.specs.Option.{option_map};
 ghost use Rattle.resp_core.specs.Value.{tree_of};
@@ -37,7 +36,6 @@ impl Place {
     }
 }
 
-/// A part with its place.
 #[derive(Drop)]
 pub(crate) struct Placed {
     pub number: u32,
@@ -45,7 +43,6 @@ pub(crate) struct Placed {
     pub text: Bytes,
 }
 
-/// The answer to an accepted command.
 #[derive(Clone, Copy)]
 pub(crate) struct Accepted {
     pub index: u64,
@@ -76,7 +73,6 @@ impl Accepted {
         }
     }
 
-    /// A command with these parts.
     pub(crate) fn counted(index: u64, placed: &[Placed]) -> Accepted
         ensures { result ≡ record {
           index = index;
@@ -103,7 +99,6 @@ impl Accepted {
         }
     }
 
-    /// The same as an answer.
     pub(crate) fn answer(self) -> Answer
         ensures { result ≡ answer_of self }
     {
