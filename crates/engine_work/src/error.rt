@@ -17,7 +17,7 @@ pub enum Denied {
 }
 
 impl Denied {
-    /// The number by which it is documented: the refusal's for `By`, 1006 for `Astray`, and 1202 for `Spent`.
+    /// Its number: the refusal's for `By`, 1006 for `Astray`, and 1202 for `Spent`.
     pub fn number(&self) -> u16
         ensures { result ≡ denied_number self.now }
     {
@@ -47,9 +47,9 @@ impl fmt::Display for Denied {
 pub enum EngineError {
     /// 1401: memory was refused.
     NoMemory,
-    /// 1402: a read failed. The connection was closed, or the fault recorded.
+    /// 1402: a read failed.
     ReadFailed,
-    /// 1403: a write failed. The connection was closed, or the fault recorded.
+    /// 1403: a write failed.
     WriteFailed,
     /// 1404: a turn was refused.
     TurnRefused(Denied),

@@ -12,7 +12,7 @@ use crate::turn_counts::TurnCounts;
 use std::marker::Model;
 use std::mem;
 
-/// A worker's account of its steps: what happened, the steps lent for it, and its payload.
+/// A worker's account of its steps.
 #[derive(Drop)]
 pub struct Account {
     counts: TurnCounts,
@@ -69,7 +69,7 @@ impl Account {
         &self.counts
     }
 
-    /// Takes the counts: nothing is counted yet from here on.
+    /// Takes the counts, which begin anew.
     pub fn take_counts(&mut self) -> TurnCounts
         ensures counts { result ≡ self.old.counts }
         ensures account { self.new ≡ record self.old { counts = no_counts } }
@@ -77,7 +77,7 @@ impl Account {
         mem::replace(&mut self.counts, TurnCounts::NONE)
     }
 
-    /// Counts a step of this kind, with its payload bytes. Its cost is spent of the loan.
+    /// Counts a step with its payload bytes. Its cost is spent of the loan.
     #[inline(always)]
     pub fn note(&mut self, kind: StepKind, bytes: PayloadCounts)
         ensures { self.new ≡ stepped_with kind bytes self.old }
@@ -114,7 +114,7 @@ impl Account {
         is_lent
     }
 
-    /// Reports its steps and payload, returns unspent steps, and reads what all workers have reported, while this many
+    /// Reports steps and payload, returns unspent steps, and reads what all workers have reported, while this many
     /// connections are open.
     pub fn settle(&mut self, ledger: &mut Ledger, connections: u64)
         ensures account { self.new ≡ settled_with ledger.new connections self.old }
@@ -179,7 +179,7 @@ impl Account {
         self.is_far_from_full(unfinished) || self.known().takes_reply(unfinished)
     }
 
-    // Whether room needn't be computed: the journal was far from full, and little has come since.
+    // The journal was far from full, and little has come since.
     #[inline(always)]
     #[tactic(auto, using(crate::proofs::FarLemmas::far_for_command, crate::proofs::FarLemmas::far_for_reply))]
     fn is_far_from_full(&self, unfinished: u64) -> bool
@@ -191,7 +191,6 @@ impl Account {
         bytes <= FAR_BYTES && self.cost <= FAR_STEPS && self.reported.is_far()
     }
 
-    // The payload known now.
     fn known(&self) -> Payload
         ensures { result ≡ known self.now }
     {

@@ -12,7 +12,6 @@ pub struct Ledger {
     pub(crate) payload: Payload,
     // Bytes of large replies that are coming.
     coming: u64,
-    // Steps that were made.
     steps: u64,
 }
 
@@ -46,7 +45,6 @@ impl Ledger {
         }
     }
 
-    /// Adds steps that a worker has made.
     pub(crate) fn note_steps(&mut self, steps: u64)
         ensures { self.new ≡ with_steps steps self.old }
     {
@@ -78,7 +76,6 @@ impl Ledger {
         self.payload.next_average()
     }
 
-    /// The steps still owed.
     pub(crate) fn owed(&self) -> u64
         ensures { result ≡ self.now.budget.spent - self.now.steps }
     {

@@ -1,9 +1,9 @@
-//! How much room the journal of a generation has: what a step costs, which steps are lent to a worker, and how many bytes
-//! of payload are expected.
+//! How much room the journal of a generation has: what a step costs, which steps are lent to a worker, and how many
+//! bytes of payload are expected.
 //!
-//! Each worker has an [`Account`] of its steps and payload, and borrows steps. It reports to the journal's [`Ledger`] now
-//! and then, and reads what all workers have reported. No threads, events or sockets. It stands on `limits`. Begin with
-//! `account.rt`; `budget.rt` counts steps, `payload.rt` bytes. Which steps were made is the caller's to say.
+//! Each worker has an [`Account`], and borrows steps. It reports to the journal's [`Ledger`] now and then, and reads
+//! what all workers have reported. Which steps were made is the caller's to say. It stands on `limits`. Begin with
+//! `account.rt`; `budget.rt` counts steps, `payload.rt` bytes.
 #![tactic(auto)]
 
 mod account;

@@ -4,7 +4,7 @@ ghost use Rattle.journal_budget.specs.Counts.{no_bytes, reply_bytes, plus, with_
 
 use crate::payload::Payload;
 
-// The steps of a command of one part. Payload is averaged over replies, so that failed parts don't lower the average.
+// Payload is averaged over replies, so that failed parts don't lower the average.
 const STEPS_A_REPLY: u64 = 4;
 
 /// Payload bytes of some steps.
@@ -21,7 +21,7 @@ pub struct PayloadCounts {
 }
 
 impl PayloadCounts {
-    /// Those of a step that has no payload.
+    /// Those of a step without payload.
     pub const NONE: PayloadCounts = PayloadCounts {
         kept: 0,
         came: 0,
@@ -77,7 +77,6 @@ impl PayloadCounts {
         }
     }
 
-    /// Adds these.
     #[inline(always)]
     pub(crate) fn add(&mut self, other: PayloadCounts)
         ensures { self.new ≡ plus self.old other }
@@ -88,7 +87,6 @@ impl PayloadCounts {
         self.steps = self.steps.saturating_add(other.steps);
     }
 
-    /// Adds them to the payload.
     #[inline(always)]
     pub(crate) fn add_to(&self, payload: &mut Payload)
         ensures { payload.new ≡ with_bytes self.now payload.old }

@@ -12,7 +12,6 @@ pub(crate) struct Reported {
     payload: Payload,
     // The owed steps that have payload.
     owed: u64,
-    // The average bytes a step, and whether the journal was far from full.
     average: u64,
     is_far: bool,
 }
@@ -28,7 +27,6 @@ impl Model for Reported {
 }
 
 impl Reported {
-    /// This payload, while so many steps are owed that have some.
     pub(crate) fn new(payload: Payload, owed: u64) -> Reported
         requires { IsInRange payload }
         ensures { result ≡ record { payload = payload; owed = owed } }
@@ -43,7 +41,6 @@ impl Reported {
         }
     }
 
-    /// The payload.
     #[inline(always)]
     pub(crate) fn payload(&self) -> Payload
         ensures { result ≡ self.now.payload }
@@ -51,7 +48,6 @@ impl Reported {
         self.payload
     }
 
-    /// The owed steps that have payload.
     #[inline(always)]
     pub(crate) fn owed(&self) -> u64
         ensures { result ≡ self.now.owed }
@@ -59,7 +55,6 @@ impl Reported {
         self.owed
     }
 
-    /// The average payload bytes a step.
     #[inline(always)]
     pub(crate) fn average(&self) -> u64
         ensures { result ≡ average_of self.now.payload }
@@ -67,7 +62,7 @@ impl Reported {
         self.average
     }
 
-    /// Whether the journal was so far from full that room needn't be computed while little comes.
+    /// So far that room needn't be computed while little comes.
     #[inline(always)]
     pub(crate) fn is_far(&self) -> bool
         ensures far { IsTrue result → IsFarFromFull self.now.payload self.now.owed }

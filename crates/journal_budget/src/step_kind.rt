@@ -8,7 +8,7 @@ pub enum StepKind {
     Opened,
     /// A command was accepted.
     Accepted {
-        /// The number of its parts that wait for hosts.
+        /// Its parts that wait for hosts.
         parts: u64,
     },
     /// A part was sent to its host.
@@ -17,7 +17,7 @@ pub enum StepKind {
     Matched,
     /// A host's link was lost, with the replies that its parts waited for.
     Lost {
-        /// The number of these parts.
+        /// These parts.
         parts: u64,
     },
     /// A reply was handed out to its client.

@@ -29,7 +29,6 @@ impl TurnCounts {
         faults: 0,
     };
 
-    /// Counts a step of this kind.
     #[inline(always)]
     pub(crate) fn note(&mut self, kind: StepKind)
         ensures { self.new ≡ counted kind self.old }

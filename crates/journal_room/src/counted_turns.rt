@@ -44,7 +44,7 @@ pub struct CountedTurns<T: CoreTurns> {
 }
 
 impl<T: CoreTurns> CountedTurns<T> {
-    /// These turns, of which nothing is counted yet.
+    /// These turns, with nothing counted.
     pub fn new(turns: T) -> CountedTurns<T>
         ensures turns { result.turns ≡ turns }
         ensures account { result.account ≡ no_account }
@@ -63,7 +63,7 @@ impl<T: CoreTurns> CountedTurns<T> {
         self.account.counts()
     }
 
-    /// Leaves the gate, if the pass is inside, and takes the counts: nothing is counted yet from here on.
+    /// Leaves the gate, and takes the counts, which begin anew.
     pub fn leave_with_counts(&mut self) -> TurnCounts
     where
         T: HeldTurns,
@@ -76,7 +76,7 @@ impl<T: CoreTurns> CountedTurns<T> {
         self.account.take_counts()
     }
 
-    /// Leaves the gate, if the pass is inside, before something that may take long.
+    /// Leaves the gate, before something that may take long.
     pub fn leave(&mut self)
     where
         T: HeldTurns,

@@ -1,8 +1,7 @@
 //! Readers and writers that count failures and pauses, with a log of their bytes for contracts.
 //!
-//! A [`Tally`] has the counts; [`ReadTally`] and [`WriteTally`] return what each call did. [`Tallied`] counts for any
-//! socket, by a [`Counter`]. A [`Faulty`] passes a number of bytes of another device and then fails, for tests. It
-//! stands on no other crate. Begin with `tally.rt`.
+//! [`Tallied`] counts for any socket. A [`Faulty`] passes a number of bytes and then fails, for tests. It stands on
+//! no other crate. Begin with `tally.rt`.
 #![tactic(auto)]
 
 mod byte_log;

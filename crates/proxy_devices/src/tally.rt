@@ -39,7 +39,7 @@ pub enum IoOutcome {
 
 /// A reader that returns what each read did, and counts.
 pub trait ReadTally: Read + Tally {
-    /// All bytes that it told since it was made, the oldest first. Proofs alone have this log.
+    /// All bytes that it told since it was made, the oldest first. Only proofs have this log.
     ghost told: { Self → List ℕ };
 
     /// Reads once into a buffer that isn't empty.
@@ -51,7 +51,7 @@ pub trait ReadTally: Read + Tally {
 
 /// A writer that returns what each write did, and counts.
 pub trait WriteTally: Write + Tally {
-    /// All bytes that it took since it was made, the oldest first. Proofs alone have this log.
+    /// All bytes that it took since it was made, the oldest first. Only proofs have this log.
     ghost taken: { Self → List ℕ };
 
     /// Writes once, at least one byte.
@@ -72,9 +72,7 @@ pub trait WriteTally: Write + Tally {
 pub struct Tallied<S> {
     inner: S,
     counter: Counter,
-    // The bytes that it told as a reader.
     told: ByteLog,
-    // The bytes that it took as a writer.
     taken: ByteLog,
 }
 
@@ -166,7 +164,7 @@ impl<S: Write> Write for Tallied<S> {
         }
     }
 
-    /// Flushes the writer. It isn't counted.
+    /// Flushes the writer; not counted.
     fn flush(&mut self) -> io::Result<()>
         ensures bytes { Keeps (S.contents self.old.inner) (S.contents self.new.inner) }
         ensures counts { counts_of self.new ≡ counts_of self.old }

@@ -40,8 +40,6 @@ fn fitting_size(length: usize, last: usize) -> usize
 }
 
 /// A client's unused input: the waiting request, an unfinished command, and bytes not looked at.
-///
-/// Contracts see the request, the bytes not looked at, and the reader of values, which has refused nothing.
 #[derive(Drop)]
 pub struct Rest {
     next: Option<Request>,
@@ -76,7 +74,6 @@ impl Model for Rest {
         × (r.values.refusal ≡ None) };
 }
 
-/// A reader, its latest bytes, and the reader of values.
 #[derive(Drop)]
 pub(crate) struct Inbox<R: ReadTally> {
     alloc: Global,
@@ -120,7 +117,7 @@ impl<R: ReadTally> Inbox<R> {
     ghost use Rattle.proxy_engines.specs.Ends.{GivesNext, Holds, IsCut, KeepsReader, ReadsOnce};
     ghost use Rattle.proxy_engines.specs.Lends.{lends_reader, with_reader};
 
-    /// An inbox that has read nothing. Without memory for its buffer the reader comes back.
+    /// Without memory for its buffer the reader comes back.
     pub(crate) fn new(alloc: Global, input: R, limits: Limits) -> Result<Inbox<R>, R>
         ensures left { IfOk result (λ i. i.left ≡ R.remaining input) }
         ensures told { IfOk result (λ i. (i.told ≡ R.told input) × (i.counts ≡ R.counts input)) }
@@ -143,7 +140,6 @@ impl<R: ReadTally> Inbox<R> {
         }
     }
 
-    /// An inbox that goes on from this rest, and the waiting request.
     pub(crate) fn with(input: R, rest: Rest) -> (Inbox<R>, Option<Request>)
         ensures left { result.0.left ≡ R.remaining input }
         ensures told { (result.0.told ≡ R.told input) × (result.0.counts ≡ R.counts input) }
@@ -172,7 +168,6 @@ impl<R: ReadTally> Inbox<R> {
         (inbox, next)
     }
 
-    /// The reader and the unused input, with this waiting request. Nothing may have been refused.
     pub(crate) fn into_rest(self, next: Option<Request>) -> (R, Rest)
         requires { self.values.refusal ≡ None }
         ensures left { R.remaining result.0 ≡ self.left }
@@ -203,7 +198,6 @@ impl<R: ReadTally> Inbox<R> {
         (input, rest)
     }
 
-    /// The reader.
     pub(crate) fn reader(&self) -> &R
         ensures { self.now ≡ with_reader self.now
             (reader_state R.remaining R.told R.counts result.now) }
@@ -211,7 +205,6 @@ impl<R: ReadTally> Inbox<R> {
         &self.input
     }
 
-    /// The reader, for calls that read nothing for the engine.
     pub(crate) fn reader_mut(&mut self) -> &mut R
         ensures* writes_back { sem 𝓛 (lends_reader R.row (record { told = R.told })
             (record { remaining = R.remaining }) (record { counts = R.counts }) self.entry result) }
@@ -221,8 +214,7 @@ impl<R: ReadTally> Inbox<R> {
         &mut self.input
     }
 
-    // Doubles the buffer if the last read filled it, and halves it if an eighth was enough, as memory allows. Its
-    // content must have been used.
+    // Doubles the buffer if the last read filled it, and halves it if an eighth was enough, as memory allows.
     fn fit(&mut self)
         requires { self.old.fresh ≡ [] }
         ensures { self.new ≡ self.old }
@@ -235,7 +227,7 @@ impl<R: ReadTally> Inbox<R> {
         }
     }
 
-    /// Reads once. The previous read must have been used.
+    /// The previous read must have been used.
     pub(crate) fn read_once(&mut self) -> IoOutcome
         requires { self.old.fresh ≡ [] }
         ensures few { length self.new.fresh ≤ READ_SIZE }
@@ -253,7 +245,6 @@ impl<R: ReadTally> Inbox<R> {
         told
     }
 
-    // Feeds the latest bytes to the reader of values.
     fn feed(&mut self) -> Result<(), AllocError>
         requires { self.old.values.refusal ≡ None }
         ensures fresh { OnOk result (self.new.fresh ≡ []) }
@@ -272,7 +263,7 @@ impl<R: ReadTally> Inbox<R> {
         Ok(())
     }
 
-    // The next command, if it is read as its text alone. Nothing may have been refused before.
+    // The next command, if it is read as its text alone.
     fn next_spelled(&mut self) -> Result<Option<SpelledCommand>, AllocError>
         requires { self.old.values.refusal ≡ None }
         ensures some { IfOk result (λ o. IfSome o (λ c. (b : List ℕ) (rs : List Asked)
@@ -294,7 +285,7 @@ impl<R: ReadTally> Inbox<R> {
         Ok(Some(command))
     }
 
-    /// The next complete request; a refused byte is one too. Nothing may have been refused before.
+    /// The next complete request; a refused byte is one too.
     ///
     /// Refused where there is no memory; nothing is lost.
     pub(crate) fn next_request(&mut self) -> Result<Option<Request>, AllocError>
@@ -315,8 +306,6 @@ impl<R: ReadTally> Inbox<R> {
     }
 
     /// The same, read as a value.
-    ///
-    /// Refused where there is no memory; nothing is lost.
     pub(crate) fn next_read(&mut self) -> Result<Option<Request>, AllocError>
         requires { self.old.values.refusal ≡ None }
         ensures next { IfOk result (λ o. GivesNext self.old self.new o) }

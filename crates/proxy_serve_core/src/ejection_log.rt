@@ -7,10 +7,8 @@ use std::marker::Model;
 
 /// What the log says of each host, over all generations.
 ///
-/// Only the newest generation that looked changes it. So of each host lines of its ejection and of its return take
-/// turns, also where it comes or goes while generations change.
-///
-/// Contracts see the number of the newest generation that looked, and of each host whether it is ejected.
+/// Only the newest generation that looked changes it. So lines of a host's ejection and of its return take turns,
+/// also while generations change.
 #[derive(Drop)]
 pub struct EjectionLog {
     newest: u64,

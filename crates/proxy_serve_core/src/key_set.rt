@@ -27,7 +27,6 @@ impl Model for KeySet {
 }
 
 impl KeySet {
-    /// No keys, and a capacity of 0.
     pub(crate) fn new(alloc: Global) -> KeySet
         ensures none { HasNone result 0 }
         ensures capacity { capacity_of result ≡ 0 }
@@ -37,7 +36,7 @@ impl KeySet {
         }
     }
 
-    /// Makes room for the keys below this number, in whole words. Without memory nothing changes.
+    /// In whole words. Without memory nothing changes.
     pub(crate) fn reserve(&mut self, capacity: usize) -> Result<(), AllocError>
         ensures room { OnOk result (capacity_of self.new
             ≡ max (capacity_of self.old) (whole_words capacity)) }
@@ -51,7 +50,7 @@ impl KeySet {
         Ok(())
     }
 
-    /// Puts the key into the set. False: it isn't below the capacity, and nothing changes.
+    /// False: the key isn't below the capacity, and nothing changes.
     pub(crate) fn insert(&mut self, key: usize) -> bool
         ensures fits { IsTrue result ↔ (key < capacity_of self.old) }
         ensures adds { OnTrue result (AddsKey key self.old self.new) }
@@ -66,7 +65,6 @@ impl KeySet {
         true
     }
 
-    /// Takes the key out of the set.
     pub(crate) fn remove(&mut self, key: usize)
         ensures drops { DropsKey key self.old self.new }
         ensures capacity { capacity_of self.new ≡ capacity_of self.old }
@@ -77,8 +75,7 @@ impl KeySet {
         }
     }
 
-    /// Puts the keys of one word into the set: bit i of `bits` stands for key 64 `index` + i. False: these aren't below the
-    /// capacity, and nothing changes.
+    /// Bit i of `bits` stands for key 64 `index` + i. False: these aren't below the capacity, and nothing changes.
     pub(crate) fn insert_word(&mut self, index: usize, bits: u64) -> bool
         ensures fits { IsTrue result ↔ (index < length self.old) }
         ensures adds { OnTrue result (AddsKeysOfWord index bits self.old self.new) }
@@ -92,7 +89,7 @@ impl KeySet {
         true
     }
 
-    /// Puts all keys of another set into this one. False: its capacity is greater than this one's, and nothing changes.
+    /// False: the other's capacity is greater, and nothing changes.
     pub(crate) fn insert_all_of(&mut self, other: &KeySet) -> bool
         ensures fits { IsTrue result ↔ (capacity_of other.now ≤ capacity_of self.old) }
         ensures joins { OnTrue result (JoinsKeys self.old other.now self.new) }
@@ -106,7 +103,7 @@ impl KeySet {
         true
     }
 
-    /// Puts all keys below this number into the set, as far as they are below its capacity.
+    /// As far as they are below the capacity.
     pub(crate) fn insert_all_below(&mut self, count: usize)
         ensures adds { AddsKeysBelow count self.old self.new }
         ensures capacity { capacity_of self.new ≡ capacity_of self.old }
@@ -116,7 +113,7 @@ impl KeySet {
         }
     }
 
-    /// The least key at or after this number. `None`: the set has none there.
+    /// The least key at or after this number.
     pub(crate) fn next(&self, from: usize) -> Option<usize>
         ensures found { IfSome result (IsNext self.now from) }
         ensures none { IfNone result (HasNone self.now from) }
@@ -133,7 +130,7 @@ impl KeySet {
     }
 }
 
-// Adds the bits of a row of words to the first words of one that isn't shorter.
+// `words` isn't shorter.
 fn join(words: &mut [u64], others: &[u64])
     requires { length others.now ≤ length words.old }
     ensures { JoinsKeys words.old others.now words.new }
@@ -143,7 +140,6 @@ fn join(words: &mut [u64], others: &[u64])
     }
 }
 
-// The least key of the words behind this one.
 fn first_behind(words: &[u64], index: usize) -> Option<usize>
     requires within { index < length words.now }
     requires few { capacity_of words.now ≤ usize.MAX + 1 }

@@ -41,7 +41,7 @@ impl ReadyClients {
         }
     }
 
-    /// Makes room for the keys below this number. Where memory is refused no key changes.
+    /// Makes room for the keys below this number. Without memory no key changes.
     pub fn reserve(&mut self, capacity: usize) -> Result<(), AllocError>
         ensures room { OnOk result (capacity ≤ capacity_of self.new.awaiting) }
         ensures ready { SameKeys self.old.ready self.new.ready }
@@ -59,7 +59,7 @@ impl ReadyClients {
         self.ready.insert(key);
     }
 
-    /// The next round looks at each client with a key below this number, as far as there is room for its key.
+    /// The next round looks at each client with a key below this number, as far as there is room.
     pub fn make_all_ready(&mut self, count: usize)
         ensures adds { AddsKeysBelow count self.old.ready self.new.ready }
         ensures rest { self.new ≡ record self.old { ready = self.new.ready } }
@@ -75,8 +75,8 @@ impl ReadyClients {
         self.ready.remove(key);
     }
 
-    /// The client's round ended. It is ready again where that left something to do, and waits for replies from here on,
-    /// or doesn't. What there is no room for is ignored.
+    /// The client's round ended: whether it is ready again, and whether it waits for replies. Ignored where there is
+    /// no room for its key.
     pub fn end(&mut self, key: usize, is_ready: bool, awaits: bool)
         ensures ready { OnTrue is_ready (AddsKeyIfItFits key self.old.ready self.new.ready) }
         ensures idle { OnFalse is_ready (self.new.ready ≡ self.old.ready) }
@@ -102,8 +102,8 @@ impl ReadyClients {
         self.end(key, false, false);
     }
 
-    /// The next round looks at the clients of one word of keys: bit i of `bits` stands for key 64 `index` + i. Ignored if
-    /// there is no room for these.
+    /// The next round looks at these clients: bit i of `bits` stands for key 64 `index` + i. Ignored if there is no
+    /// room for them.
     pub fn make_word_ready(&mut self, index: usize, bits: u64)
         ensures adds { AddsWordIfItFits index bits self.old.ready self.new.ready }
         ensures rest { self.new ≡ record self.old { ready = self.new.ready } }
@@ -119,7 +119,7 @@ impl ReadyClients {
         self.ready.insert_all_of(&self.awaiting);
     }
 
-    /// The ready client with the least key at or after this number. `None`: no client is ready there.
+    /// The ready client with the least key at or after this number.
     pub fn next(&self, from: usize) -> Option<usize>
         ensures found { IfSome result (IsNext self.now.ready from) }
         ensures none { IfNone result (HasNone self.now.ready from) }

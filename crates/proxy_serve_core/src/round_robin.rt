@@ -34,7 +34,7 @@ impl RoundRobin {
         }
     }
 
-    /// Returns the one whose turn it is. The first one follows the last.
+    /// Returns the one whose turn it is; the first follows the last.
     pub fn take(&mut self) -> usize
         ensures turn { result ≡ self.old.next }
         ensures next { self.new.next ≡ (self.old.next + 1) % self.old.count }

@@ -1,8 +1,8 @@
 //! Signals that wait for the process, as `/proc/self/status` shows them.
 //!
 //! A process started with a signal blocked, as by `env --block-signal=TERM`, isn't ended by it: the signal waits.
-//! Waiting signals are in the line `ShdPnd`, blocked ones in the line `SigBlk`, each as a hexadecimal number in which
-//! signal n is bit n - 1.
+//! Waiting signals are in the line `ShdPnd`, blocked ones in `SigBlk`, as hexadecimal numbers in which signal n is
+//! bit n - 1.
 
 const INT: u64 = 1 << 1;
 
@@ -57,7 +57,7 @@ fn behind<'a>(status: &'a [u8], text: &[u8]) -> Option<&'a [u8]> {
     None
 }
 
-// The hexadecimal number at the front, at most 16 digits long.
+// At most 16 digits long.
 fn number(digits: &[u8]) -> u64 {
     let mut sum = 0u64;
     for digit in digits.iter().take(16) {

@@ -7,8 +7,8 @@ use std::marker::Model;
 
 /// The clients' sockets of one run of `redproxy serve`, in all its generations.
 ///
-/// A socket is open from `accept` to `let_go`. Its connection is closed once, before that. A socket that goes over to
-/// the next generation stays open, and its connection isn't closed.
+/// A socket is open from `accept` to `let_go`; its connection is closed once, before that. A socket that goes over to
+/// the next generation stays open.
 #[derive(Debug, Drop)]
 pub struct Sockets {
     most: u64,
@@ -57,8 +57,8 @@ impl Sockets {
         }
     }
 
-    /// Counts a new socket. `true`: it is accepted and open. `false`: nothing changes, and it is to be closed, since
-    /// `MAX_SOCKETS` are open or none is accepted any more.
+    /// Counts a new socket. `false`: nothing changes, and it is to be closed, since `MAX_SOCKETS` are open or none is
+    /// accepted any more.
     pub fn accept(&mut self) -> bool
         ensures taken { IsTrue result ↔ MayOpen self.old }
         ensures counted { OnTrue result (self.new ≡ one_more_open self.old) }

@@ -28,7 +28,7 @@ pub struct Inherited {
     pub average: u64,
 }
 
-// The new sockets and the carried-over sockets that wait for one worker, and the waker of the worker that takes them now.
+// The new and the carried-over sockets that wait for one worker, and the waker of the worker that takes them now.
 #[derive(Drop)]
 struct AcceptQueue<C: Drop> {
     sockets: Mutex<VecDeque<TcpStream>>,
@@ -45,17 +45,16 @@ pub struct Server<C: Drop> {
     is_running: AtomicBool,
     stop: Mutex<Option<Stop>>,
     log: Log,
-    // Which sockets are accepted and when the server is done; and whether it drains, readable without a lock.
+    // Whether it drains is readable without a lock.
     sockets: Mutex<Sockets>,
     is_draining: AtomicBool,
-    // Which generation has which task; the board shows it without a lock.
+    // The board shows these without a lock.
     generations: Mutex<Generations<Inherited>>,
     board: Board,
     stats: Mutex<Stats>,
     ejections: Mutex<EjectionLog>,
 }
 
-// Written out so that a drop is one call: each function that holds one is proved sooner.
 impl<C: Drop> Drop for Server<C> {
     fn drop(self) {
         let Server {
@@ -75,9 +74,7 @@ impl<C: Drop> Drop for Server<C> {
 }
 
 impl<C: Drop> Server<C> {
-    /// A server with a queue for each worker. The first generation is due.
-    ///
-    /// Refused only for want of memory.
+    /// A server with a queue for each worker. The first generation is due. Refused only for want of memory.
     pub fn new(
         alloc: Global,
         config: &Config,
@@ -119,14 +116,13 @@ impl<C: Drop> Server<C> {
         self.log
     }
 
-    // Wakes the worker that takes from this queue now.
     fn wake<R: Wait>(&self, rt: &R, queue: &AcceptQueue<C>) {
         if let Some(waker) = &*queue.waker.lock(rt) {
             let _ = waker.wake();
         }
     }
 
-    /// Counts an accepted socket. False: no more are taken, and it is to be closed.
+    /// Counts an accepted socket. False: it is to be closed.
     pub fn admit<R: Wait>(&self, rt: &R) -> bool {
         self.sockets.lock(rt).accept()
     }
@@ -147,7 +143,7 @@ impl<C: Drop> Server<C> {
         self.end_if_done(sockets);
     }
 
-    /// Counts a closed connection; ends the server after `connections` of them, as its options say.
+    /// Counts a closed connection. The server ends after `connections` of them.
     pub fn count_closed<R: Wait>(&self, rt: &R) {
         let mut sockets = self.sockets.lock(rt);
         sockets.close();
@@ -175,7 +171,6 @@ impl<C: Drop> Server<C> {
         self.wake_all(rt);
     }
 
-    // Wakes all workers, and the thread that accepts.
     fn wake_all<R: Wait>(&self, rt: &R) {
         for queue in self.queues.iter() {
             self.wake(rt, queue);
@@ -183,7 +178,7 @@ impl<C: Drop> Server<C> {
         let _ = self.waker.wake();
     }
 
-    /// Whether no further socket is accepted, and inputs end behind what has come.
+    /// Whether the server drains.
     pub fn is_draining(&self) -> bool {
         self.is_draining.load(Ordering::SeqCst)
     }
@@ -214,7 +209,7 @@ impl<C: Drop> Server<C> {
         }
     }
 
-    /// Takes the socket that waits longest in a worker's queue.
+    /// Takes the socket that waits longest.
     pub fn pop<R: Wait>(&self, rt: &R, index: usize) -> Option<TcpStream> {
         self.queues.get(index)?.sockets.lock(rt).pop_front()
     }
@@ -251,7 +246,7 @@ impl<C: Drop> Server<C> {
         }
     }
 
-    /// Takes the carried-over socket that waits longest in a worker's queue.
+    /// Takes the carried-over socket that waits longest.
     pub fn take_carried<R: Wait>(&self, rt: &R, index: usize) -> Option<C> {
         self.queues.get(index)?.carried.lock(rt).pop_front()
     }
@@ -261,7 +256,7 @@ impl<C: Drop> Server<C> {
         self.is_running.load(Ordering::SeqCst)
     }
 
-    // Stops the server. False: it was stopped before.
+    // False: it was stopped before.
     fn halt(&self) -> bool {
         let did_run = self.is_running.swap(false, Ordering::SeqCst);
         let _ = self.waker.wake();
@@ -281,7 +276,7 @@ impl<C: Drop> Server<C> {
         *self.stop.lock(rt)
     }
 
-    /// The generation's phase, as `Board::phase` has it; `Stopped` once the server ends.
+    /// The generation's phase; `Stopped` once the server ends.
     pub fn phase(&self, number: u64) -> Phase {
         if self.runs() {
             self.board.phase(number)
@@ -300,7 +295,7 @@ impl<C: Drop> Server<C> {
         self.board.has_connections(number)
     }
 
-    // Publishes what was decided, and wakes the thread that opens a generation that is due.
+    // Wakes the thread that opens a generation that is due.
     fn publish(&self, generations: MutexGuard<'_, Generations<Inherited>>) {
         self.board.show(&generations);
         drop(generations);
@@ -345,8 +340,7 @@ impl<C: Drop> Server<C> {
     }
 
     /// The newest generation has reached its marks at this moment, or takes in nothing more. The next one starts from
-    /// this state, once one in the way has had its time. While it waits to be opened, it starts from the state of the last
-    /// call.
+    /// the state of the last call.
     pub fn full<R: Wait>(&self, rt: &R, number: u64, now: u64, from: Inherited) {
         let mut generations = self.generations.lock(rt);
         if let Some(from) = generations.renew(number, from) {

@@ -15,8 +15,8 @@ use std::marker::Model;
 
 /// The reading half of a socket, for an engine.
 ///
-/// It asks the socket only when there may be bytes, and counts reads that failed or paused. What it has told its engine
-/// is what the socket gave, all of it; once input was thrown away each read fails.
+/// It asks the socket only when there may be bytes, and counts reads that failed or paused. Once input was thrown
+/// away each read fails.
 pub struct SocketReader<S: Read> {
     stream: S,
     end: ReadEnd,
@@ -25,7 +25,6 @@ pub struct SocketReader<S: Read> {
     counter: Counter,
 }
 
-// Written out so that a drop is one call: each function that holds one is proved sooner.
 impl<S: Read + Drop> Drop for SocketReader<S> {
     fn drop(self) {
         let SocketReader {
@@ -68,7 +67,7 @@ impl<S: Read> SocketReader<S> {
         self.end.set_readable();
     }
 
-    /// The peer sends nothing more: from here on a short read doesn't say that all was read.
+    /// The peer sends nothing more.
     pub fn set_closed(&mut self)
         ensures { self.new
             ≡ record self.old { end = record self.old.end { is_closed = true } } }
@@ -122,7 +121,7 @@ impl<S: Read> SocketReader<S> {
         self.end.throw_away(&mut self.stream)
     }
 
-    // Reads once, unless it is broken off. It isn't counted.
+    // Not counted.
     fn ask(&mut self, buffer: &mut [u8]) -> io::Result<usize>
         ensures bound { ReadsAtMost result buffer.new }
         ensures reads { ReadsHalf self.old self.new (length buffer.old) result buffer.new }
@@ -150,8 +149,7 @@ impl<S: Read> Tally for SocketReader<S> {
 impl<S: Read> Read for SocketReader<S> {
     ghost remaining = { λ _. None };
 
-    /// Reads once, if the socket may have bytes, and counts the result. It returns `WouldBlock` if the socket may have
-    /// none, and `BrokenPipe` once it is broken off.
+    /// Reads once, and counts the result. `WouldBlock`: the socket may have no bytes. `BrokenPipe`: it is broken off.
     fn read(&mut self, buffer: &mut [u8]) -> io::Result<usize>
         ensures bound { ReadsAtMost result buffer.new }
         ensures bytes { ReadConsumes None None result buffer.new }
@@ -171,7 +169,7 @@ impl<S: Read> Read for SocketReader<S> {
 impl<S: Read> ReadTally for SocketReader<S> {
     ghost told = { λ r. r.end.delivered };
 
-    /// Reads once, if the socket may have bytes; pauses if it may have none, and fails once it is broken off.
+    /// Reads once; pauses if the socket may have no bytes, and fails once it is broken off.
     fn read_told(&mut self, buffer: &mut [u8]) -> IoOutcome
         requires room { 0 < length buffer.old }
         ensures told { IsRead (engine_reader self.old) (engine_reader self.new)
