@@ -1,4 +1,3 @@
-//! The keys that the settings file may have.
 ghost use Rattle.std.specs.Prelude.{◌↔◌, IsTrue, Any, string_bytes};
 ghost use Rattle.std.specs.BTreeMap.{keys};
 ghost use Rattle.proxy_config.specs.File.{IsUnknown};

@@ -4,7 +4,6 @@ use crate::fake_devices::{Feed, Taken};
 use std::alloc::Global;
 use std::cell::Cell;
 
-// A client's text, and the bytes that it took.
 #[derive(Drop)]
 pub(crate) struct Visitor {
     pub(crate) says: Cell<Feed>,
@@ -29,7 +28,6 @@ pub(crate) struct Stage {
     pub(crate) asked_later: Taken,
 }
 
-// Written out, as in `rig.rt`.
 impl Drop for Stage {
     fn drop(self) {
         let Stage {

@@ -1,4 +1,3 @@
-//! Rings of the script.
 
 use crate::text::number;
 use anyhow::{Result, bail};

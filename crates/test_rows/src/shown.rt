@@ -1,4 +1,3 @@
-//! Answers in words.
 
 use crate::again;
 use crate::text::put_escaped;

@@ -66,15 +66,11 @@ pub fn put_escaped(text: &mut String, bytes: &[u8]) -> Result<()> {
     Ok(())
 }
 
-// The part of an escape that was read.
 #[derive(Clone, Copy)]
 enum Escape {
     Outside,
-    // The backslash.
     Begun,
-    // The `x`.
     Hex,
-    // The first digit.
     HexDigit(u32),
 }
 

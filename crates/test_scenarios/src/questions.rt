@@ -9,7 +9,6 @@ use test_reference::Reference;
 use test_rows::shown::shown;
 use test_rows::text::{first_word, number, unknown};
 
-// Their names.
 const QUESTIONS: [&str; 9] = [
     "hosts",
     "epoch",
@@ -22,7 +21,6 @@ const QUESTIONS: [&str; 9] = [
     "counts_of",
 ];
 
-/// Whether a question has this name.
 pub(crate) fn is_question(name: &str) -> bool {
     QUESTIONS.contains(&name)
 }

@@ -1,4 +1,3 @@
-//! A total with the journal of its additions.
 ghost use Rattle.std.specs.Prelude.{◌≡◌, ◌≤◌, []};
 ghost use Rattle.test_total.specs.Totals.{AreTotals, amount_sum, totals_at_first, totals_before};
 
@@ -70,7 +69,6 @@ impl Recorded for RunningTotal {
 
     type Setting = u64;
 
-    /// The total.
     type Sight = u64;
 
     ghost journal = { journal_of };
