@@ -1,4 +1,3 @@
-//! Errors of engines.
 ghost use Rattle.std.specs.Prelude.{◌≡◌};
 ghost use Rattle.engine_work.specs.EngineError.{denied_number, number_of};
 
@@ -17,7 +16,7 @@ pub enum Denied {
 }
 
 impl Denied {
-    /// Its number: the refusal's for `By`, 1006 for `Astray`, and 1202 for `Spent`.
+    /// Its number: 1202, the refusal's own, or 1006.
     pub fn number(&self) -> u16
         ensures { result ≡ denied_number self.now }
     {

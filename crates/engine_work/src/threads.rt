@@ -1,4 +1,3 @@
-//! Works in threads of their own.
 ghost use Rattle.std.specs.Prelude.{◌≡◌, ◌≤◌, IfOk, IfErr, vec_len, vec_capacity, ⊤, [], Result, All};
 ghost use Rattle.std.specs.List.{AllZip};
 ghost use Rattle.engine_work.specs.Works.{Answers, IsBegun, IsCallable, Settles};
@@ -15,7 +14,6 @@ use std::thread::{Promise, PromisedHandle, Scope, Threads};
 
 type WorkResult = Result<(), EngineError>;
 
-// The promise that an answer is one that the work may give.
 #[derive(Drop)]
 struct AnswerOf<Rt: Wait, K: Work<Rt>> {
     work: Snapshot<K>,

@@ -1,4 +1,3 @@
-//! The work of a thread.
 ghost use Rattle.std.specs.Prelude.{Result, ⊤};
 ghost use Rattle.engine_work.specs.declared.error.EngineError.{EngineError};
 

@@ -7,7 +7,7 @@ use std::marker::Model;
 
 const JOURNAL_STEPS: u64 = limits::MAX_STEPS as u64;
 
-/// The steps lent to a worker by its generation's budget, and those it spent.
+/// Steps lent to a worker, and those it spent.
 #[derive(Drop)]
 pub(crate) struct Loan {
     lent: u64,
@@ -111,10 +111,7 @@ impl Budget {
         true
     }
 
-    /// The spent steps, less those set free, are spent for good, and the lent ones are returned. The loan is empty
-    /// afterwards.
-    ///
-    /// A loan of another budget spends no more than fits, and returns no more than is lent.
+    /// Spent steps, less those set free, are spent for good. Lent ones are returned, and the loan is empty.
     pub(crate) fn settle(&mut self, loan: &mut Loan)
         ensures settled { self.new ≡ settled JOURNAL_STEPS loan.old self.old }
         ensures empty { loan.new ≡ no_loan }

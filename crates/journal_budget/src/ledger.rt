@@ -1,4 +1,3 @@
-//! The spent and lent steps of a generation's journal, and its payload.
 ghost use Rattle.std.specs.Prelude.{◌≡◌, ◌↔◌, ◌≤◌, ◌+◌, ◌-◌, IsTrue};
 
 use crate::budget::Budget;
@@ -51,8 +50,8 @@ impl Ledger {
         self.steps = self.steps.saturating_add(steps);
     }
 
-    /// Whether the journal has room for a host's reply beside all others that are coming. `came` of its bytes have
-    /// come; `before` had come at the last report.
+    /// Whether there is room for a reply beside all others that are coming. `came` of its bytes have come, `before`
+    /// at the last report.
     pub fn takes_reply(&mut self, came: u64, before: u64) -> bool
         ensures coming { self.new ≡ with_coming came before self.old }
         ensures room { IsTrue result ↔ HasRoomForReply self.old.payload self.new.coming }

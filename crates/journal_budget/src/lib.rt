@@ -1,9 +1,8 @@
 //! How much room the journal of a generation has: what a step costs, which steps are lent to a worker, and how many
-//! bytes of payload are expected.
+//! bytes are expected.
 //!
-//! Each worker has an [`Account`], and borrows steps. It reports to the journal's [`Ledger`] now and then, and reads
-//! what all workers have reported. Which steps were made is the caller's to say. It stands on `limits`. Begin with
-//! `account.rt`; `budget.rt` counts steps, `payload.rt` bytes.
+//! Each worker has an [`Account`], and reports to the journal's [`Ledger`] now and then. Which steps were made is the
+//! caller's to say. It stands on `limits`. Begin with `account.rt`.
 #![tactic(auto)]
 
 mod account;

@@ -1,4 +1,3 @@
-//! The payload of one journal: the commands and replies that it has room for.
 ghost use Rattle.std.specs.Prelude.{◌≡◌, ◌↔◌, ◌≤◌, ◌+◌, ◌-◌, ◌*◌, IsTrue};
 
 use limits::{MAX_BYTES, MAX_REPLY_BYTES};
@@ -19,7 +18,6 @@ pub(crate) const FAR_STEPS: u64 = 16_384;
 // An average is the journal's own from this many steps on.
 const FIRST_STEPS: u64 = 1_024;
 
-/// As its workers have reported it.
 #[derive(Clone, Copy)]
 pub(crate) struct Payload {
     used: u64,
@@ -55,7 +53,7 @@ impl Payload {
     ghost use Rattle.journal_budget.specs.Budget.{capped};
     ghost use Rattle.journal_budget.specs.Payload.{no_payload, average_of, kept_bytes, next_average_of, HasRoomForCommand, HasRoomForReply, IsFarFromFull};
 
-    /// `average` is the payload bytes a step of the last generation at its end, 0 for the first one.
+    /// `average` is the last generation's payload bytes a step at its end, 0 for the first one.
     pub(crate) fn new(average: u64) -> Payload
         ensures { result ≡ no_payload average }
     {
@@ -68,8 +66,8 @@ impl Payload {
         }
     }
 
-    /// Adds a worker's report since its last one: payload bytes in the journal, bytes of replies that came, with the
-    /// proxy's own, bytes handed out, and the steps of the average. Each sum stays at the greatest `u64`.
+    /// Adds a worker's report. `came` counts the proxy's own replies too, and `steps` those of the average. Each sum
+    /// stays at the greatest `u64`.
     pub(crate) fn note(&mut self, used: u64, came: u64, handed: u64, steps: u64)
         ensures used { self.new.used ≡ capped (self.old.used + used) }
         ensures came { self.new.came ≡ capped (self.old.came + came) }
@@ -95,8 +93,7 @@ impl Payload {
         }
     }
 
-    /// This journal's own average, and at least half of what it started with. So large values are remembered for some
-    /// generations, and then forgotten.
+    /// At least half of what this journal started with, so that large values are remembered for some generations.
     pub(crate) fn next_average(&self) -> u64
         ensures { result ≡ next_average_of self.now }
     {
@@ -104,8 +101,7 @@ impl Payload {
         own.max(self.before / 2)
     }
 
-    /// `unfinished` bytes of the client have come. There is room if nothing is owed and there is no payload, so that
-    /// there is always progress.
+    /// There is room if nothing is owed and there is no payload, so that there is always progress.
     pub(crate) fn takes_in(&self, owed: u64, unfinished: u64) -> bool
         ensures { IsTrue result ↔ HasRoomForCommand self.now owed unfinished }
     {

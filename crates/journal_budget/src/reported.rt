@@ -1,4 +1,3 @@
-//! What the workers of a generation have reported of their payload.
 ghost use Rattle.std.specs.Prelude.{◌≡◌, IsTrue};
 ghost use Rattle.journal_budget.specs.Payload.{average_of, IsFarFromFull};
 ghost use Rattle.journal_budget.specs.Reported.{IsInRange};

@@ -1,4 +1,3 @@
-//! The kinds of a journal's steps, and their costs.
 ghost use Rattle.std.specs.Prelude.{◌≡◌};
 
 /// The kind of a step.
@@ -15,9 +14,9 @@ pub enum StepKind {
     Sent,
     /// A host's answer was matched to its part.
     Matched,
-    /// A host's link was lost, with the replies that its parts waited for.
+    /// A host's link was lost.
     Lost {
-        /// These parts.
+        /// The parts that waited for its replies.
         parts: u64,
     },
     /// A reply was handed out to its client.

@@ -1,4 +1,3 @@
-//! What happened in turns, counted.
 ghost use Rattle.std.specs.Prelude.{◌≡◌};
 ghost use Rattle.journal_budget.specs.Counts.{counted};
 

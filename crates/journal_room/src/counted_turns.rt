@@ -1,4 +1,3 @@
-//! A worker's turns, counted.
 ghost use Rattle.std.specs.Prelude.{◌≡◌, IfOk, IfErr};
 ghost use Rattle.ticket_gate.specs.Journal.{AddsTurn};
 ghost use Rattle.ticket_gate.specs.Turns.{RefusesTurn};
@@ -96,7 +95,7 @@ impl<T: CoreTurns> CountedTurns<T> {
         }
     }
 
-    /// From here on a turn leaves the pass inside the gate.
+    /// As [`HeldTurns::hold`].
     pub fn hold(&mut self)
     where
         T: HeldTurns,

@@ -1,4 +1,3 @@
-//! The room in a generation's journal, shared by its workers.
 ghost use Rattle.std.specs.Prelude.{◌≡◌, ◌↔◌, ◌≤◌, ◌<◌, ◌+◌, ◌⊎◌, max, IsTrue};
 ghost use Rattle.std.specs.Bool.{OnTrue, OnFalse};
 ghost use Rattle.limits.specs.declared.journals.TheConstants.{MAX_COMMAND_STEPS};
@@ -25,8 +24,8 @@ const LARGE_STEP: u64 = 8_192;
 // At most this many steps are lent to all workers together, but to each at least a command's.
 const MAX_LENT: u64 = 65_536;
 
-/// What the workers of a generation share of its journal. What each round of a worker writes has cache lines of its own, so that no
-/// other read waits for it.
+/// What the workers of a generation share. What each round writes has cache lines of its own, so that no other read
+/// waits for it.
 pub struct JournalRoom {
     workers: u64,
     open: AtomicU64,
@@ -49,7 +48,7 @@ impl Drop for JournalRoom {
 }
 
 impl JournalRoom {
-    /// The room in an empty journal, for this many workers. `average` is the last generation's payload bytes a step.
+    /// The room in an empty journal. `average` is the last generation's payload bytes a step.
     pub fn new(workers: u64, average: u64) -> JournalRoom {
         JournalRoom {
             workers,
@@ -60,8 +59,7 @@ impl JournalRoom {
         }
     }
 
-    /// Reports what the worker's turns did, takes back its unspent steps, and lends it this reserve again. The turns
-    /// leave the gate.
+    /// Reports the worker's turns, takes back unspent steps, and lends this reserve again. Leaves the gate.
     pub fn settle<R: Wait, T: HeldTurns>(&self, rt: &R, turns: &mut CountedTurns<T>, reserve: u64)
         ensures turns { turns.new.turns ≡ turns.old.turns }
         ensures counts { turns.new.account.counts ≡ turns.old.account.counts }
@@ -78,7 +76,7 @@ impl JournalRoom {
         turns.account.borrow_steps(ledger, reserve);
     }
 
-    /// Lends this many steps. False: that many aren't left. The turns leave the gate.
+    /// Lends this many steps. False: too few are left. Leaves the gate.
     pub fn lend_steps<R: Wait, T: HeldTurns>(
         &self,
         rt: &R,
@@ -94,8 +92,8 @@ impl JournalRoom {
         turns.account.borrow_steps(&mut self.ledger.lock(rt), steps)
     }
 
-    /// Lends the worker steps until it has enough for any command beside the reserve. False: that many aren't left.
-    /// The turns leave the gate where the worker has too few.
+    /// Lends steps until the worker has enough for any command beside the reserve. False: too few are left. Leaves
+    /// the gate where it lends.
     pub fn lend<R: Wait, T: HeldTurns>(
         &self,
         rt: &R,
@@ -123,9 +121,7 @@ impl JournalRoom {
     }
 
     /// Whether there is room for a further command, beside the reserve. `unfinished` bytes of the client's commands
-    /// aren't accepted yet.
-    ///
-    /// Large payload is reported first. The turns leave the gate where they report or have steps lent.
+    /// aren't accepted yet. Leaves the gate where it reports large payload or lends steps.
     pub fn takes_command<R: Wait, T: HeldTurns>(
         &self,
         rt: &R,
@@ -148,11 +144,8 @@ impl JournalRoom {
         self.lend(rt, turns, reserve) && turns.account.has_room_for_command(unfinished)
     }
 
-    /// Whether there is room for a host's reply of which `came` bytes have come. `reported` is how many of them the
-    /// other workers know of.
-    ///
-    /// A large reply is reported first, and has to fit beside all others that are coming. The turns leave the gate
-    /// then.
+    /// Whether there is room for a reply of which `came` bytes have come, and the other workers know of `reported`. A
+    /// large one is reported first, and has to fit beside all others that are coming. Leaves the gate then.
     pub fn takes_reply<R: Wait, T: HeldTurns>(
         &self,
         rt: &R,

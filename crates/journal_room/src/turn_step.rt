@@ -1,4 +1,3 @@
-//! The step that a turn is, and its payload.
 ghost use Rattle.std.specs.Prelude.{◌≡◌};
 ghost use Rattle.journal_room.specs.TurnStep.{brought_by, own_bytes, noted};
 

@@ -39,7 +39,7 @@ pub enum Action {
 /// Why the words make no request.
 #[derive(Drop)]
 pub enum CommandLineError {
-    /// There was no memory to read them.
+    /// Memory was refused.
     Memory,
     /// `--metrics` has no address with a port.
     NoAddress,
@@ -47,7 +47,7 @@ pub enum CommandLineError {
     Parser(ParserText),
 }
 
-/// The parser's text: an error of the words, or the help.
+/// The parser's text: an error, or the help.
 #[derive(Drop)]
 pub struct ParserText {
     error: Error,
@@ -59,7 +59,7 @@ impl ParserText {
         self.error.print(rt)
     }
 
-    /// Whether it is the help, and no error.
+    /// Whether it is the help.
     pub fn is_help(&self) -> bool {
         self.error.exit_code() == 0
     }

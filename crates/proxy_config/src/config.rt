@@ -103,9 +103,10 @@ impl Drop for Config {
 impl Config {
     /// The settings in the bytes of a file.
     ///
-    /// Refused with `Fault`: `json` if the bytes are no JSON object, else `unknown key`, else the first key of the
-    /// table, in its order, whose value is out of its range or of another type. Of a repeated key the last one
-    /// counts. Refused with `Memory`, in place of any other result, where memory is refused.
+    /// Refused with `Fault`: `json` if the bytes are no JSON object; else `unknown key` for a key that isn't in the
+    /// table; else the first key of the table, in its order, whose value is out of its range or of another type. Of a
+    /// repeated key the last one counts. Refused with `Memory`, in place of any other result, where memory is
+    /// refused.
     pub fn read(alloc: Global, bytes: &[u8]) -> Result<Config, ConfigError>
         ensures ok { IfOk result (λ config. IsSettings bytes.now (values_of config)) }
         ensures parts { IfOk result

@@ -4,7 +4,6 @@ ghost use Rattle.proxy_config.specs.File.{IsUnknown};
 
 use serde_json::{Map, Value};
 
-/// Whether an object has a key that isn't in the table.
 pub(crate) fn has_unknown_key(members: &Map<String, Value>) -> bool
     ensures { IsTrue result ↔ Any (λ name. IsUnknown (string_bytes name)) (keys members.now) }
 {

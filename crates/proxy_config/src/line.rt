@@ -6,8 +6,7 @@ use crate::config::Config;
 use crate::error::ConfigError;
 use std::alloc::Global;
 
-/// The line that `check` prints for the settings in these bytes: `ok 3 hosts 120 digests`. The digests are those of
-/// the ring.
+/// The line that `check` prints for the settings in these bytes: `ok 3 hosts 120 digests`.
 ///
 /// Refused as `Config::read` is, and with `Memory` where memory for the ring or the line is refused.
 pub fn check_line(alloc: Global, bytes: &[u8]) -> Result<String, ConfigError>

@@ -1,4 +1,3 @@
-//! Readers and writers that fail for good after a number of bytes.
 ghost use Rattle.std.specs.Prelude.{◌≡◌, ◌≢◌, [], ◌<◌, ◌≤◌, ◌+◌, ◌-◌, ◌^◌, min, length, take, IfErr, IfOk, IsErr, OnErr};
 ghost use Rattle.std.specs.Io.{ReadsAtMost, WritesAtMost};
 ghost use Rattle.std.specs.Io.KnownBytes.{Keeps, ReadConsumes, WriteAppends};
@@ -11,9 +10,8 @@ use crate::tally::{IoOutcome, ReadTally, Tally, WriteTally};
 use std::io;
 use std::io::{ErrorKind, Read, Write};
 
-/// Passes a number of bytes of another reader or writer, and then fails at each call. It is for tests.
-///
-/// Its counts are the other's, with its own failures, and its log is the other's.
+/// Passes a number of bytes of another reader or writer, and then fails at each call; for tests. Its log is the
+/// other's.
 #[derive(Drop)]
 pub struct Faulty<S> {
     inner: S,
@@ -71,7 +69,6 @@ impl<S> Faulty<S> {
         Ok(self.most(bytes))
     }
 
-    // Records the other's result.
     fn pass(&mut self, told: IoOutcome)
         requires { moved_count told ≤ self.old.left }
         ensures { self.new ≡ record self.old { left = self.old.left - moved_count told } }
@@ -95,8 +92,7 @@ impl<S: Tally> Tally for Faulty<S> {
 }
 
 impl<S: ReadTally> Faulty<S> {
-    /// Reads once from the other one, at most the bytes left. Where none are left it fails, and the other one isn't
-    /// called.
+    /// Reads once, at most the bytes left. Where none are left it fails, and the other one isn't called.
     pub fn read_passed(&mut self, buffer: &mut [u8]) -> IoOutcome
         requires room { 0 < length buffer.old }
         ensures passes { 0 < self.old.left → IsRead
@@ -120,8 +116,7 @@ impl<S: ReadTally> Faulty<S> {
 }
 
 impl<S: WriteTally> Faulty<S> {
-    /// Writes once to the other one, at most the bytes left. Where none are left it fails, and the other one isn't
-    /// called.
+    /// Writes once, at most the bytes left. Where none are left it fails, and the other one isn't called.
     pub fn write_passed(&mut self, bytes: &[u8]) -> IoOutcome
         requires some { bytes.now ≢ [] }
         ensures passes { 0 < self.old.left → IsWritten

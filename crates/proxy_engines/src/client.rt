@@ -1,4 +1,3 @@
-//! A client's engine.
 ghost use Rattle.std.specs.Prelude.{◌≡◌, ◌-◌, ◌≢◌, ◌↔◌, ◌∷◌, ◌++◌, ◌⊎◌, ℕ, [], List, Option, None, Some, true, false, IfOk, IfErr, IfSome, IfNone, OnOk, OnErr};
 ghost use Rattle.std.specs.Borrow.{sem};
 ghost use Rattle.splitter.specs.Request.{Request as Asked};
@@ -418,7 +417,6 @@ impl<R: ReadTally, W: WriteTally> ClientEngine<R, W> {
         self.hand(rt, turns)
     }
 
-    // One step of a connection that isn't closed and has no fault.
     fn go_on<Rt: Wait, T: CoreTurns>(
         &mut self,
         rt: &Rt,

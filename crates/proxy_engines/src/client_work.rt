@@ -1,4 +1,3 @@
-//! A client's engine as the work of a thread.
 ghost use Rattle.std.specs.Prelude.{◌≡◌, ◌⊎◌, Bool, true, None, IfErr, OnOk, ⊤};
 ghost use Rattle.proxy_engines.specs.Client.{Goes, HasNoFault};
 ghost use Rattle.proxy_engines.specs.Moves.{AsTold};

@@ -1,4 +1,3 @@
-//! A host's engine.
 ghost use Rattle.std.specs.Prelude.{◌≡◌, ◌≢◌, ◌⊎◌, ◌↔◌, ℕ, List, [], Option, Some, None, IfOk, IfErr, IfSome, IsSome, OnOk, OnErr, true, false, unwrap_or, IsTrue};
 ghost use Rattle.std.specs.Borrow.{sem};
 ghost use Rattle.proxy_history.specs.History.{History};
@@ -315,7 +314,6 @@ impl<R: ReadTally + Drop, W: WriteTally + Drop> HostEngine<R, W> {
         }
     }
 
-    // One step without a link.
     fn go_on_alone<Rt: Wait, T: CoreTurns>(
         &mut self,
         rt: &Rt,
@@ -361,7 +359,7 @@ impl<R: ReadTally + Drop, W: WriteTally + Drop> HostEngine<R, W> {
         }
     }
 
-    // Writes pending bytes once, or takes one part, where there is a link and no unrecorded fault.
+    // Where there is a link and no unrecorded fault.
     fn send_on<Rt: Wait, T: CoreTurns>(
         &mut self,
         rt: &Rt,

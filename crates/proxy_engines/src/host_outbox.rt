@@ -1,4 +1,3 @@
-//! The output for a host: its pending text, and when each part without a reply was taken.
 ghost use Rattle.std.specs.Prelude.{◌≡◌, ◌≢◌, ◌⊎◌, ◌++◌, ◌==◌, ◌↔◌, ℕ, List, [], Option, None, true, false, length, drop, IfOk, IfErr, OnOk, OnErr, IsTrue};
 ghost use Rattle.std.specs.Io.KnownBytes.{Appends};
 ghost use Rattle.proxy_history.specs.declared.event.Event.{Event};

@@ -1,4 +1,4 @@
-//! Laws of engines, and the limit of one read. Each is the contract of a function that does nothing.
+//! Laws, each the contract of a function that does nothing.
 ghost use Rattle.std.specs.Prelude.{◌≡◌};
 ghost use Rattle.proxy_engines.specs.Laws.{AcceptedAreFirst, ClientsLeaveOthers, EndedIsOver, EndedIsWhole, HostsLeaveOthers, OthersLeaveClients, OthersLeaveHosts};
 ghost use Rattle.proxy_engines.specs.Keeps.{ClientsKeepSockets, HostsKeepLinks};

@@ -2,9 +2,7 @@
 //!
 //! A [`ClientEngine`] turns its input into a connection's events at a core, and writes the replies that the core
 //! hands out. A [`HostEngine`] writes the core's parts to a host, and turns the link's input into replies. Both are
-//! lent turns (`CoreTurns`): a pass at a gate, or a core of their own. Readers and writers count their failures and
-//! pauses ([`Tally`]); [`Tallied`] does this for any socket. A [`ClientWork`] steps one client's engine to its end,
-//! as a [`Work`] of [`run_all`].
+//! lent turns (`CoreTurns`): a pass at a gate, or a core of their own.
 //!
 //! It stands on `proxy_core`, `proxy_devices` and `engine_work`. Begin with `client.rt`, then `host.rt`.
 #![tactic(auto)]

@@ -1,4 +1,3 @@
-//! A link to a host.
 ghost use Rattle.std.specs.Prelude.{◌≡◌, ◌≢◌, ◌⊎◌, ℕ, [], Option, Some, None, IfOk, IfErr, OnErr, true, false};
 ghost use Rattle.limits.specs.declared.messages.TheConstants.{MAX_HOST_MEMBERS};
 ghost use Rattle.proxy_history.specs.History.{History};

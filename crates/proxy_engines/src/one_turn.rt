@@ -1,4 +1,3 @@
-//! One turn, and its effect on the caller's own steps.
 ghost use Rattle.std.specs.Prelude.{◌≡◌, ◌∷◌, [], ℕ, IfOk, IfErr, OnOk};
 ghost use Rattle.journal_core.specs.Journal.{step_by};
 ghost use Rattle.ticket_gate.specs.Journal.{AddsTurn};

@@ -4,7 +4,7 @@ ghost use Rattle.proxy_exit_status.specs.declared.ending.Ending.TheVariants.{Mem
 use std::alloc::{AllocError, AllocFailed};
 use thiserror::Error;
 
-/// Why the program ended before its work was done.
+/// Why the program ended early.
 #[derive(Clone, Copy, Debug, PartialEq, Eq, Drop, Error)]
 pub enum Ending {
     /// Status 4: the journal is full.

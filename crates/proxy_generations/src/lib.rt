@@ -1,5 +1,5 @@
-//! Decides how `redproxy serve` goes on when a journal is nearly full: which generation serves, which drain and which
-//! is given up, when the next one opens, and when a sweep is due. It stands on `limits`. Begin with `lifecycle.rt`.
+//! Decides which generation of `redproxy serve` serves, which ones drain, when the next one opens, and when a sweep
+//! is due. It stands on `limits`. Begin with `lifecycle.rt`.
 #![tactic(auto)]
 
 mod laws;

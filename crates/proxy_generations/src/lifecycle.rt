@@ -28,7 +28,7 @@ pub enum Phase {
     Serving,
     /// It takes in nothing more, and answers what it accepted.
     Draining,
-    /// The parts that wait for hosts are given up: its links are closed.
+    /// The parts that wait for hosts are given up.
     GivingUp,
     /// Its connections are closed at once.
     Stopped,
@@ -45,31 +45,27 @@ pub struct Due<H> {
 
 #[derive(Drop)]
 enum NextGeneration<H> {
-    // None was asked for since the last one opened or failed.
     Unasked,
     Wanted(Option<H>),
     Opening,
 }
 
-/// The generations of one run of `redproxy serve`.
-///
-/// `H` is the handover from one generation to the next. Moments are milliseconds of one clock.
+/// The generations of one run. `H` is the handover from one to the next. Moments are milliseconds of one clock.
 pub struct Generations<H> {
     interval_ms: u64,
     max_failures: u32,
-    // Failures left before the server ends.
     tries_left: u32,
     newest: Option<Open>,
     older: Older,
     near_since: Option<u64>,
-    // When a host last answered commands of the one in the way, or when the newest one opened.
+    // When a host last answered the one in the way, or the newest one opened.
     still_since: Option<u64>,
     // When the newest one opened.
     drains_since: Option<u64>,
     next: NextGeneration<H>,
-    // How many were asked for, beside the first: the next one's number.
+    // The next one's number.
     asked: u64,
-    // The last sweep known to the newest one when it last handed over.
+    // The newest one's last sweep at its handover.
     handed_sweep: Option<u64>,
 }
 
@@ -97,8 +93,8 @@ impl<H: Drop> Generations<H> {
     ghost use Rattle.proxy_generations.specs.Older.{first_if_full, numbers_of};
     ghost use Rattle.proxy_generations.specs.GenerationsState.{Settings, Stands, Tells, Gives, EndsServing, IsSweepDue};
 
-    /// No generation is open, and the first one, number 0, is due without a handover. A sweep is due every
-    /// `interval_ms` milliseconds; `max_failures` failures in a row end the server.
+    /// No generation is open, and number 0 is due. A sweep is due every `interval_ms` milliseconds; `max_failures`
+    /// failures in a row end the server.
     pub fn new(interval_ms: u64, max_failures: u32) -> Generations<H>
         ensures { Stands result
             (record { interval_ms = interval_ms; max_failures = max_failures }) [] }
@@ -118,7 +114,7 @@ impl<H: Drop> Generations<H> {
         }
     }
 
-    /// The generation to open, returned once: one is wanted, and one more may drain.
+    /// The generation to open, once: one is wanted, and one more may drain.
     pub fn take_due(&mut self) -> Option<Due<H>>
         ensures { Gives result self.old self.new }
     {
@@ -150,8 +146,8 @@ impl<H: Drop> Generations<H> {
         }
     }
 
-    /// All threads of the generation have come at the moment `now`: it is the newest one from here on, and the one
-    /// before drains. Ignored unless it is being opened.
+    /// The generation is the newest one from the moment `now` on, and the one before drains. Ignored unless it is
+    /// being opened.
     pub fn opened(&mut self, number: u64, now: u64)
         ensures { Tells (Opened number now) self.old self.new }
     {
@@ -169,9 +165,8 @@ impl<H: Drop> Generations<H> {
         }
     }
 
-    /// The generation could not be opened. `true`: the server must end, after failure `max_failures` in a row or
-    /// without an open generation. Otherwise the newest one asks again, by `full`. Ignored, and `false`, unless it is
-    /// being opened.
+    /// The generation could not be opened. `true`: the server must end. Otherwise the newest one asks again, by
+    /// `full`. Ignored unless it is being opened.
     pub fn failed(&mut self, number: u64) -> bool
         ensures tells { Tells (Failed number) self.old self.new }
         ensures ends { (s : Settings) (es : List (Event H)) → Stands self.old s es
@@ -185,7 +180,7 @@ impl<H: Drop> Generations<H> {
         self.tries_left == 0 || self.newest.is_none()
     }
 
-    // None is in the way, no host has answered it for long enough, or it has been in the way too long.
+    // None is in the way, or its time is over.
     fn may_be_left(&self, now: u64) -> bool
         ensures { IsTrue result ↔ MayBeLeft self.now now }
     {
@@ -194,11 +189,10 @@ impl<H: Drop> Generations<H> {
             || have_passed(self.drains_since, MAX_DRAINING_MS, now)
     }
 
-    /// The newest generation is near its marks at the moment `now`: the one in the way is given up. The first such
-    /// moment counts.
+    /// The newest generation is near its marks at the moment `now`: the one in the way is given up.
     ///
     /// Ignored unless `by` is the newest one. Ignored within `STILL_MS` milliseconds of a host's last answer to the
-    /// one in the way, or of the newest one's opening, until that has been open for `MAX_DRAINING_MS`.
+    /// one in the way, or of the newest one's opening, until that was `MAX_DRAINING_MS` ago.
     pub fn near(&mut self, by: u64, now: u64)
         ensures { Tells (Near by now) self.old self.new }
     {
@@ -215,11 +209,10 @@ impl<H: Drop> Generations<H> {
     }
 
     /// The newest generation has reached its marks at the moment `now`, or accepts nothing more: the next one is
-    /// wanted, from this handover or the last one by `renew`. The one in the way stops.
+    /// wanted, from this handover, and the one in the way stops.
     ///
-    /// Ignored, and the handover dropped, unless `by` is the newest one and none is wanted or being opened. The same
-    /// holds while one in the way hasn't been given up for `GIVING_UP_MS` milliseconds, and once 2^64 generations
-    /// were asked for.
+    /// Ignored, and the handover dropped, unless `by` is the newest one and none is wanted or being opened. Ignored
+    /// while the one in the way hasn't been given up for `GIVING_UP_MS` milliseconds, and after 2^64 generations.
     pub fn full(&mut self, by: u64, now: u64, handover: H)
         ensures { Tells (Full by now handover) self.old self.new }
     {
@@ -239,8 +232,7 @@ impl<H: Drop> Generations<H> {
         }
     }
 
-    /// The newest generation hands over anew, while the next one waits to be opened. `None`: that starts from this
-    /// handover. Otherwise the handover comes back, and nothing changes.
+    /// Replaces the handover of the generation that is wanted. Otherwise this one comes back, and nothing changes.
     pub fn renew(&mut self, by: u64, handover: H) -> Option<H>
         ensures tells { Tells (Renewed by handover) self.old self.new }
         ensures taken { (s : Settings) (es : List (Event H)) → Stands self.old s es
@@ -258,7 +250,7 @@ impl<H: Drop> Generations<H> {
         None
     }
 
-    /// A host has answered commands of a draining generation by the moment `now`. Ignored unless it is the one in the way.
+    /// A host has answered commands by the moment `now`. Ignored unless the generation is in the way.
     pub fn progressed(&mut self, number: u64, now: u64)
         ensures { Tells (Progressed number now) self.old self.new }
     {
@@ -267,7 +259,7 @@ impl<H: Drop> Generations<H> {
         }
     }
 
-    /// A draining generation has no connection left. Ignored unless it drains.
+    /// The generation has no connection left. Ignored unless it drains.
     pub fn drained(&mut self, number: u64)
         ensures { Tells (Drained number) self.old self.new }
     {
@@ -297,7 +289,7 @@ impl<H: Drop> Generations<H> {
         }
     }
 
-    /// The number of the newest open generation, `None` before the first one opens.
+    /// The newest open generation's number.
     pub fn newest(&self) -> Option<u64>
         ensures { (s : Settings) (es : List (Event H)) → Stands self.now s es → result ≡ newest es }
     {
@@ -341,7 +333,7 @@ impl<H: Drop> Generations<H> {
         self.older.has(number)
     }
 
-    // It is the oldest of those that drain, and no further one may.
+    // The oldest of those that drain, where no further one may.
     fn is_in_the_way(&self, number: u64) -> bool
         ensures { IsTrue result
             ↔ (first_if_full (numbers_of self.now.older.kept.items) ≡ Some number) }
@@ -352,10 +344,9 @@ impl<H: Drop> Generations<H> {
         }
     }
 
-    /// Whether a sweep of the generation is due at the moment `now`: the interval has passed since the last sweep
-    /// that it knows. That is its own last one, or the last one known to the generation before it at the handover;
-    /// for the first generation, its opening. None is due if the clock went back, or if the generation isn't open or
-    /// has drained.
+    /// Whether a sweep is due at the moment `now`: the interval has passed since the last one that the generation
+    /// knows. At first that is the last one of the generation before it; for the first generation, its opening. None
+    /// is due if the clock went back, or if the generation isn't open or has drained.
     pub fn is_sweep_due(&self, number: u64, now: u64) -> bool
         ensures { (s : Settings) (es : List (Event H)) → Stands self.now s es
             → IsTrue result ↔ IsSweepDue s es number now }
@@ -366,7 +357,7 @@ impl<H: Drop> Generations<H> {
         }
     }
 
-    /// The generation made a sweep at the moment `now`. Ignored where it isn't open, or has drained.
+    /// A sweep was made at the moment `now`. Ignored where the generation isn't open, or has drained.
     pub fn swept(&mut self, number: u64, now: u64)
         ensures { Tells (Swept number now) self.old self.new }
     {

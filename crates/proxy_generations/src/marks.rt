@@ -3,9 +3,9 @@ ghost use Rattle.std.specs.Prelude.{◌≡◌, ◌↔◌, ◌≤◌, ◌*◌, �
 /// The length of a journal at which the next generation opens.
 #[derive(Clone, Copy, Debug, PartialEq, Eq)]
 pub struct Marks {
-    /// The journal's steps.
+    /// Steps.
     pub steps: u64,
-    /// The journal's bytes of payload.
+    /// Bytes of payload.
     pub bytes: u64,
 }
 

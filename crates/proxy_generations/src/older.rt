@@ -1,4 +1,3 @@
-//! The generations that drain, as they are kept.
 ghost use Rattle.std.specs.Prelude.{◌≡◌, ◌↔◌, ◌<◌, [], ◌++◌, not, ◌==◌, length, filter, map, slice_get, Contains, option_to_list, IsTrue, IfSome, IsNone};
 
 use crate::opened::Open;
@@ -80,7 +79,6 @@ impl Older {
         None
     }
 
-    /// Nothing changes where no further one may drain.
     pub(crate) fn add(&mut self, one: Option<Open>)
         ensures { length self.old.kept.items < MAX_DRAINING
             → self.new.kept.items ≡ self.old.kept.items ++ option_to_list one }

@@ -1,4 +1,3 @@
-//! An open generation, as it is kept.
 ghost use Rattle.std.specs.Prelude.{◌≡◌, ◌↔◌, Some, IsTrue, IfSome, IsNone};
 
 /// An open generation: its number, and the last sweep that it knows.

@@ -4,7 +4,7 @@ ghost use Rattle.proxy_histogram.specs.Values.{IsOf, capped, with_times};
 /// The number of bounds.
 pub const BOUNDS: usize = 12;
 
-/// In milliseconds: Prometheus's usual ones from 1 to 5,000, with 2 in place of 2.5, so that all are whole.
+/// In milliseconds: Prometheus's usual ones, with 2 in place of 2.5, so that all are whole.
 pub const BOUNDS_MS: [u64; BOUNDS] = [1, 2, 5, 10, 25, 50, 100, 250, 500, 1000, 2500, 5000];
 
 /// A histogram of milliseconds. The greatest `u64` stands for any greater number.

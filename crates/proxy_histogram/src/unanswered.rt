@@ -11,8 +11,8 @@ struct Run {
 
 const NONE: Run = Run { since: 0, count: 0 };
 
-/// When a connection's unanswered commands were accepted, in milliseconds of one clock. Answers leave in the order of
-/// the commands.
+/// When a connection's unanswered commands were accepted, in milliseconds. Answers leave in the order of the
+/// commands.
 #[derive(Drop)]
 pub struct Unanswered {
     // None of these runs is empty.
@@ -29,8 +29,7 @@ impl Unanswered {
         }
     }
 
-    /// Adds commands accepted at this moment. Without memory for another moment they count as accepted with those
-    /// before.
+    /// Adds commands accepted at this moment, or, without memory, with those before.
     pub fn accepted(&mut self, now: u64, count: u64) {
         if count == 0 {
             return;
@@ -60,7 +59,7 @@ impl Unanswered {
         self.first.count = self.first.count.saturating_add(count);
     }
 
-    /// This many commands were answered at this moment: records their durations.
+    /// Records the durations of this many commands, answered at this moment.
     pub fn answered(&mut self, now: u64, count: u64, durations: &mut Histogram) {
         let mut left = count;
         for _ in 0..count {

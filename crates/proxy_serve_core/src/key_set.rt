@@ -1,4 +1,3 @@
-//! A set of keys, such as those of a slab.
 ghost use Rattle.std.specs.Prelude.{◌≡◌, ◌↔◌, ◌<◌, ◌≤◌, ◌+◌, ◌*◌, ℕ, length, max, IsTrue, IfSome, IfNone, OnOk, OnErr};
 ghost use Rattle.std.specs.Bool.{OnTrue, OnFalse};
 ghost use Rattle.proxy_serve_core.specs.KeySet.{AddsKey, AddsKeysBelow, AddsKeysOfWord, DropsKey, Has, HasNone, IsNext, JoinsKeys, SameKeys, capacity_of, whole_words};
@@ -6,7 +5,6 @@ ghost use Rattle.proxy_serve_core.specs.KeySet.{AddsKey, AddsKeysBelow, AddsKeys
 use std::alloc::{AllocError, Global};
 use std::marker::Model;
 
-// The keys of a word.
 const BITS: usize = 64;
 
 /// A set of keys below its capacity, which only `reserve` raises.
@@ -50,7 +48,7 @@ impl KeySet {
         Ok(())
     }
 
-    /// False: the key isn't below the capacity, and nothing changes.
+    /// False: past the capacity; nothing changes.
     pub(crate) fn insert(&mut self, key: usize) -> bool
         ensures fits { IsTrue result ↔ (key < capacity_of self.old) }
         ensures adds { OnTrue result (AddsKey key self.old self.new) }
@@ -75,7 +73,7 @@ impl KeySet {
         }
     }
 
-    /// Bit i of `bits` stands for key 64 `index` + i. False: these aren't below the capacity, and nothing changes.
+    /// Bit i of `bits` stands for key 64 `index` + i. False: past the capacity; nothing changes.
     pub(crate) fn insert_word(&mut self, index: usize, bits: u64) -> bool
         ensures fits { IsTrue result ↔ (index < length self.old) }
         ensures adds { OnTrue result (AddsKeysOfWord index bits self.old self.new) }
@@ -89,7 +87,7 @@ impl KeySet {
         true
     }
 
-    /// False: the other's capacity is greater, and nothing changes.
+    /// False: the other's capacity is greater; nothing changes.
     pub(crate) fn insert_all_of(&mut self, other: &KeySet) -> bool
         ensures fits { IsTrue result ↔ (capacity_of other.now ≤ capacity_of self.old) }
         ensures joins { OnTrue result (JoinsKeys self.old other.now self.new) }
@@ -113,7 +111,6 @@ impl KeySet {
         }
     }
 
-    /// The least key at or after this number.
     pub(crate) fn next(&self, from: usize) -> Option<usize>
         ensures found { IfSome result (IsNext self.now from) }
         ensures none { IfNone result (HasNone self.now from) }
@@ -130,7 +127,6 @@ impl KeySet {
     }
 }
 
-// `words` isn't shorter.
 fn join(words: &mut [u64], others: &[u64])
     requires { length others.now ≤ length words.old }
     ensures { JoinsKeys words.old others.now words.new }

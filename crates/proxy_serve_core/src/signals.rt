@@ -1,8 +1,7 @@
-//! Signals that wait for the process, as `/proc/self/status` shows them.
+//! Signals that wait for the process, as `/proc/self/status` shows them: in the line `ShdPnd`, and blocked ones in
+//! `SigBlk`, as hexadecimal numbers in which signal n is bit n - 1.
 //!
-//! A process started with a signal blocked, as by `env --block-signal=TERM`, isn't ended by it: the signal waits.
-//! Waiting signals are in the line `ShdPnd`, blocked ones in `SigBlk`, as hexadecimal numbers in which signal n is
-//! bit n - 1.
+//! A signal blocked at the start, as by `env --block-signal=TERM`, waits and doesn't end the process.
 
 const INT: u64 = 1 << 1;
 

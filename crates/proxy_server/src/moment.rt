@@ -1,4 +1,3 @@
-//! The time of day of `serve`.
 
 use std::rt::Clock;
 

@@ -1,4 +1,3 @@
-//! The server, as its operator sees it.
 
 use crate::log::Level;
 use crate::moment::now;

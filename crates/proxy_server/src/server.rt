@@ -1,4 +1,3 @@
-//! What all threads of `serve` share, in every generation.
 
 use crate::board::Board;
 use crate::log::{Level, Log};
@@ -28,7 +27,7 @@ pub struct Inherited {
     pub average: u64,
 }
 
-// The new and the carried-over sockets that wait for one worker, and the waker of the worker that takes them now.
+// A worker's waiting sockets, and its present waker.
 #[derive(Drop)]
 struct AcceptQueue<C: Drop> {
     sockets: Mutex<VecDeque<TcpStream>>,
@@ -156,8 +155,7 @@ impl<C: Drop> Server<C> {
         self.count_dropped(rt);
     }
 
-    /// Accepts no further socket, and ends all inputs behind what has come. The last socket then ends the server. A
-    /// second call is ignored.
+    /// Accepts no further socket, and ends all inputs behind what has come. The last socket then ends the server.
     pub fn drain<R: Wait + Eprint>(&self, rt: &R) {
         if self.is_draining.swap(true, Ordering::SeqCst) {
             return;
@@ -214,10 +212,9 @@ impl<C: Drop> Server<C> {
         self.queues.get(index)?.sockets.lock(rt).pop_front()
     }
 
-    /// Reserves memory in the queue for one more carried-over socket. False: there is none.
+    /// Reserves memory for one more carried-over socket. False: there is none.
     ///
-    /// The room stays: for each queue one worker of each generation puts such sockets in or back, one at a time, and each
-    /// reserves for all.
+    /// The room stays: one worker of each generation puts such sockets in, one at a time, and each reserves for all.
     pub fn reserve_to_carry<R: Wait>(&self, rt: &R, index: usize) -> bool {
         match self.queues.get(index) {
             Some(queue) => queue.carried.lock(rt).reserve(MAX_GENERATIONS).is_ok(),
@@ -225,7 +222,7 @@ impl<C: Drop> Server<C> {
         }
     }
 
-    /// Queues a carried-over socket, and wakes the worker that takes it. Without memory the socket is closed and counted.
+    /// Queues a carried-over socket, and wakes its worker. Without memory the socket is closed and counted.
     pub fn carry<R: Wait>(&self, rt: &R, index: usize, carried: C) {
         let Some(queue) = self.queues.get(index) else {
             return self.count_closed_and_dropped(rt);
@@ -332,7 +329,7 @@ impl<C: Drop> Server<C> {
         self.generations.lock(rt).progressed(number, now);
     }
 
-    /// The newest generation is at three quarters of its marks at this moment.
+    /// The newest generation is near its marks at this moment.
     pub fn near<R: Wait>(&self, rt: &R, number: u64, now: u64) {
         let mut generations = self.generations.lock(rt);
         generations.near(number, now);
@@ -340,7 +337,7 @@ impl<C: Drop> Server<C> {
     }
 
     /// The newest generation has reached its marks at this moment, or takes in nothing more. The next one starts from
-    /// the state of the last call.
+    /// the last such state.
     pub fn full<R: Wait>(&self, rt: &R, number: u64, now: u64, from: Inherited) {
         let mut generations = self.generations.lock(rt);
         if let Some(from) = generations.renew(number, from) {

@@ -1,4 +1,3 @@
-//! The counts of a run: of generations that are gone, and of living ones by their last sight.
 
 use limits::{MAX_GENERATIONS, MAX_HOSTS};
 use proxy_generations::Generations;

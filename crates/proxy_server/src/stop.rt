@@ -1,4 +1,3 @@
-//! Why the server ended before it was done.
 
 use proxy_admin::OpenError;
 use proxy_exit_status::Ending;
@@ -18,8 +17,8 @@ pub struct Failure {
     pub error: Error,
 }
 
-/// Why the server ended before it was done. Its text is that of its ending, and behind it what failed, as in `socket:
-/// cannot listen on 127.0.0.1:6379: Address already in use (os error 98)`.
+/// Why the server ended before it was done. Its text is as in `socket: cannot listen on 127.0.0.1:6379: Address
+/// already in use (os error 98)`.
 #[derive(Clone, Copy, Drop)]
 pub struct Stop {
     /// The program's ending.

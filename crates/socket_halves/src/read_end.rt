@@ -1,4 +1,3 @@
-//! The reading end of a socket: it is asked only when there may be bytes, and its input can be ended.
 ghost use Rattle.std.specs.Prelude.{◌≡◌, ◌≢◌, ◌⊎◌, true, false, ◌++◌, length, take, min, ◌-◌, ◌^◌, IfOk, IfErr, OnErr, IsErrAnd, Some, None, Ok};
 ghost use Rattle.std.specs.Io.{ReadsAtMost};
 ghost use Rattle.std.specs.Io.KnownBytes.{IsAtEnd};

@@ -1,4 +1,3 @@
-//! The reading half of a socket, which tells an engine what the socket gave.
 ghost use Rattle.std.specs.Prelude.{◌≡◌, ◌≢◌, ◌<◌, ◌-◌, ◌^◌, true, false, length, min, Some, None};
 ghost use Rattle.std.specs.Io.{ReadsAtMost};
 ghost use Rattle.std.specs.Io.KnownBytes.{ReadConsumes};
@@ -13,10 +12,8 @@ use std::io;
 use std::io::{ErrorKind, Read};
 use std::marker::Model;
 
-/// The reading half of a socket, for an engine.
-///
-/// It asks the socket only when there may be bytes, and counts reads that failed or paused. Once input was thrown
-/// away each read fails.
+/// The reading half of a socket, for an engine. It asks the socket only when there may be bytes, and counts reads
+/// that failed or paused.
 pub struct SocketReader<S: Read> {
     stream: S,
     end: ReadEnd,
@@ -75,7 +72,7 @@ impl<S: Read> SocketReader<S> {
         self.end.set_closed();
     }
 
-    /// Ends the input behind what has come, or after `MAX_LAST` bytes at the latest.
+    /// Ends the input, as [`ReadEnd::end_input`] does.
     pub fn end_input(&mut self)
         ensures first { self.old.end.left ≡ None → self.new ≡ record self.old {
           end = record self.old.end { left = Some MAX_LAST; is_readable = true };
@@ -110,7 +107,7 @@ impl<S: Read> SocketReader<S> {
         self.end.may_read()
     }
 
-    /// Reads and discards what has come, by at most 64 reads of 16,384 bytes; each later read fails.
+    /// Discards what has come, as [`ReadEnd::throw_away`] does; each later read fails.
     pub fn throw_away(&mut self) -> Discarded
         ensures discards { Discards self.old.end self.new.end None None }
         ensures paused { result ≡ Discarded.Emptied → self.new.end.is_readable ≡ false }
@@ -149,7 +146,7 @@ impl<S: Read> Tally for SocketReader<S> {
 impl<S: Read> Read for SocketReader<S> {
     ghost remaining = { λ _. None };
 
-    /// Reads once, and counts the result. `WouldBlock`: the socket may have no bytes. `BrokenPipe`: it is broken off.
+    /// Reads once. `WouldBlock`: the socket may have no bytes. `BrokenPipe`: it is broken off.
     fn read(&mut self, buffer: &mut [u8]) -> io::Result<usize>
         ensures bound { ReadsAtMost result buffer.new }
         ensures bytes { ReadConsumes None None result buffer.new }
@@ -169,7 +166,7 @@ impl<S: Read> Read for SocketReader<S> {
 impl<S: Read> ReadTally for SocketReader<S> {
     ghost told = { λ r. r.end.delivered };
 
-    /// Reads once; pauses if the socket may have no bytes, and fails once it is broken off.
+    /// The same, as an outcome.
     fn read_told(&mut self, buffer: &mut [u8]) -> IoOutcome
         requires room { 0 < length buffer.old }
         ensures told { IsRead (engine_reader self.old) (engine_reader self.new)

@@ -1,4 +1,3 @@
-//! The writing half of a socket, which takes what an engine gives and writes it in large pieces.
 ghost use Rattle.std.specs.Prelude.{◌≡◌, ◌≢◌, ◌<◌, ◌==◌, ◌||◌, ◌↔◌, not, true, false, [], length, IfOk, IfErr, IsTrue, None};
 ghost use Rattle.std.specs.Io.{WritesAtMost};
 ghost use Rattle.std.specs.Io.KnownBytes.{Keeps, WriteAppends};
@@ -132,7 +131,7 @@ impl<S: Write> SocketWriter<S> {
         self.output.lend_buffer(buffer);
     }
 
-    /// Writes buffered bytes as far as the socket takes them, as [`WriteBuffer::write_out`] does.
+    /// Writes buffered bytes, as [`WriteBuffer::write_out`] does.
     pub fn write_out(&mut self, buffer: &mut Vec<u8>)
         ensures writes { WritesOut self.old.output self.new.output }
         ensures accepted { accepted self.new.output ≡ accepted self.old.output }
@@ -173,7 +172,7 @@ impl<S: Write> Tally for SocketWriter<S> {
 impl<S: Write> Write for SocketWriter<S> {
     ghost contents = { λ _. None };
 
-    /// Takes these bytes as far as there is room, and counts the result.
+    /// Takes these bytes as far as there is room.
     fn write(&mut self, bytes: &[u8]) -> io::Result<usize>
         ensures bound { WritesAtMost result bytes.now }
         ensures bytes { WriteAppends None None result bytes.now }
@@ -206,7 +205,7 @@ impl<S: Write> Write for SocketWriter<S> {
 impl<S: Write> WriteTally for SocketWriter<S> {
     ghost taken = { λ w. accepted w.output };
 
-    /// Takes these bytes as far as there is room.
+    /// The same, as an outcome.
     fn write_told(&mut self, bytes: &[u8]) -> IoOutcome
         requires some { bytes.now ≢ [] }
         ensures told { IsWritten (engine_writer self.old) (engine_writer self.new)

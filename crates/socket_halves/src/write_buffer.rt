@@ -1,4 +1,3 @@
-//! A writer with a buffer, so that it writes large pieces.
 ghost use Rattle.std.specs.Prelude.{◌≡◌, ◌≢◌, ◌≤◌, ◌==◌, true, false, [], ◌++◌, length, IfErr, OnOk, OnErr};
 ghost use Rattle.std.specs.Io.{WritesAtMost};
 ghost use Rattle.std.specs.Io.KnownBytes.{WriteAppends};
@@ -17,8 +16,8 @@ const MAX_INTERRUPTIONS: u32 = 1_000;
 
 /// A writer, and the bytes buffered for it.
 ///
-/// An interrupted write is made again; 1,000 interruptions in a row are a failed write. A write that takes nothing
-/// has failed too. After one that takes less than it was given, the writer takes no more for now.
+/// An interrupted write is made again; 1,000 interruptions in a row are a failed write. One that takes nothing has
+/// failed too. After one that takes less than it was given, the writer takes no more for now.
 #[derive(Drop)]
 pub struct WriteBuffer<W: Write> {
     alloc: Global,
@@ -159,9 +158,8 @@ impl<W: Write> WriteBuffer<W> {
         }
     }
 
-    /// Writes buffered bytes as far as the writer takes them. Afterwards nothing is buffered, or the writer takes no
-    /// more until `set_writable`, or a write has failed. The buffer is returned once all is taken, and is empty.
-    /// After a failed write nothing changes.
+    /// Writes buffered bytes until nothing is buffered, the writer takes no more for now, or a write has failed. Once
+    /// all is taken the buffer is returned, and is empty. After a failed write nothing changes.
     pub fn write_out(&mut self, buffer: &mut Vec<u8>)
         ensures writes { WritesOut self.old self.new }
         ensures back { buffer.new.items ≡ [] }
@@ -179,7 +177,6 @@ impl<W: Write> WriteBuffer<W> {
         self.bytes = Vec::new(self.alloc);
     }
 
-    // A writer that took less takes no more for now.
     fn write_some(&mut self)
         ensures goes_out { GoesOut self.old self.new [] }
         ensures ends { may_write self.new ≡ false }
@@ -281,13 +278,12 @@ impl<W: Write> WriteBuffer<W> {
         }
     }
 
-    /// Takes these bytes; all of them if they are fewer than 65,536. They are buffered behind the others, at most
-    /// 131,072 bytes in all. A longer text, or one for which there is no memory, is written at once behind the
-    /// others, as far as the writer takes it.
+    /// Takes these bytes; all of them if they are fewer than 65,536. They are buffered, at most 131,072 in all. A
+    /// longer text, or one without memory, is written at once behind the others, as far as the writer takes it.
     ///
-    /// Returns `WouldBlock`, having taken nothing, if the writer takes no more for now and 65,536 bytes are buffered
-    /// or the text isn't buffered. Any other error, or 0 for a text that isn't empty: a write has failed, now or
-    /// before. Nothing was taken, and nothing will be.
+    /// `WouldBlock`: nothing is taken, since the writer takes no more for now and 65,536 bytes are buffered or the
+    /// text isn't buffered. Any other error, or 0 for a text that isn't empty: a write has failed, and nothing is
+    /// taken any more.
     pub fn write(&mut self, bytes: &[u8]) -> io::Result<usize>
         ensures bound { WritesAtMost result bytes.now }
         ensures writes { WritesBuffer self.old self.new bytes.now result }

@@ -6,8 +6,8 @@ use crate::error::StubError;
 use bytes::Bytes;
 use std::alloc::Global;
 
-/// `None`: the bytes aren't the one spelling of a signed 64-bit number. That is decimal, with `-` before a negative
-/// number, without a plus sign and without leading zeros; zero is `0`.
+/// `None`: the bytes aren't a signed 64-bit number in its one decimal spelling, which has no plus sign and no leading
+/// zeros.
 pub(crate) fn number_in(alloc: Global, bytes: &[u8]) -> Result<Option<i64>, StubError>
     ensures number { IfOk result (λ number. number ≡ number_in bytes.now) }
     ensures memory { IfErr result (λ e. e ≡ StubError.NoMemory) }

@@ -1,4 +1,3 @@
-//! The shared state of a link's two ends: the stub, its requests and its replies.
 ghost use Rattle.std.specs.Prelude.{◌≡◌, ◌≤◌, ◌<◌, ◌⊎◌, IfOk, IfErr, OnOk, length, true};
 ghost use Rattle.stub_server.specs.Session.{left_of, steps_of};
 
@@ -43,8 +42,8 @@ impl Session {
         }
     }
 
-    // Takes bytes of requests, and serves the complete ones. Returns the number of bytes taken. None are taken while
-    // earlier requests wait for memory or for room for their replies.
+    // Takes bytes of requests, and serves the complete ones. Takes none while earlier requests wait for memory or for
+    // room.
     pub(crate) fn write(&mut self, bytes: &[u8]) -> Result<usize, ErrorKind>
         ensures taken { IfOk result (λ n. n ≤ length bytes.now) }
         ensures kinds { IfErr result

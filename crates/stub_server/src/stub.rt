@@ -18,7 +18,7 @@ use resp_core::{Payload, Value, Values};
 use std::alloc::Global;
 use std::marker::Model;
 
-/// A Redis host in memory: a map from keys to byte strings, the answers to requests, and a script for handling them.
+/// A Redis host in memory: a map from keys to byte strings, and a script.
 pub struct Stub {
     alloc: Global,
     entries: Vec<Entry>,

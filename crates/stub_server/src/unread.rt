@@ -1,4 +1,3 @@
-//! Unread texts of replies.
 ghost use Rattle.std.specs.Prelude.{◌≡◌, ◌++◌, [], OnOk, OnErr, IfErr, length, min, take, drop, codes};
 ghost use Rattle.resp_core.specs.Value.{tree_of};
 ghost use Rattle.resp_core.specs.Text.{text};

@@ -1,5 +1,4 @@
-//! Sweeps, one at a time: hosts whose time is over come back, and hosts that answer badly are ejected. It stands on
-//! `proxy_core`. Begin with `sweep.rt`.
+//! Sweeps, one at a time. It stands on `proxy_core`. Begin with `sweep.rt`.
 #![tactic(auto)]
 
 mod pace;

@@ -37,10 +37,10 @@ impl SweepRefusal {
     }
 }
 
-/// Makes one turn: a sweep at this moment in milliseconds. Returns the numbers of hosts that it returned, ejected,
+/// Makes a sweep at this moment in milliseconds, as one turn. Returns the numbers of hosts that it returned, ejected,
 /// and let stay though they tripped.
 ///
-/// Refused 1001 or 1002 by the core, or 1202 without a ticket; the pass has no further step.
+/// Refused, the pass has no further step.
 pub fn sweep_once<R: Wait, T: CoreTurns>(
     rt: &R,
     turns: &mut T,

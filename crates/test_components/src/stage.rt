@@ -1,4 +1,3 @@
-//! The surroundings of the engines: the texts of clients and a host, and the bytes that each took.
 
 use crate::fake_devices::{Feed, Taken};
 use std::alloc::Global;

@@ -7,7 +7,7 @@ use anyhow::{Context, Result, bail};
 use std::alloc::Global;
 
 /// Prints each line of the script, and after an action its answer. Ends in an error at the first line that is no row,
-/// action or comment, and where no memory is left.
+/// action or comment.
 pub fn play<S: Subject>(rt: &impl Print, alloc: Global, text: &str) -> Result<()> {
     let mut subject: Option<S> = None;
     let played = play_lines(rt, alloc, text, &mut subject);
@@ -36,7 +36,6 @@ fn play_lines<S: Subject>(
     Ok(())
 }
 
-// Empty for a line that begins a row or isn't an action.
 fn read_line<S: Subject>(alloc: Global, subject: &mut Option<S>, line: &str) -> Result<String> {
     if line.is_empty() || line.starts_with('#') {
         return Ok(String::new(alloc));
@@ -55,7 +54,6 @@ fn read_line<S: Subject>(alloc: Global, subject: &mut Option<S>, line: &str) -> 
     }
 }
 
-// By the words `TIMES ACTION`.
 fn repeated<S: Subject>(alloc: Global, subject: &mut S, words: &str) -> Result<String> {
     let (times, action) = first_word(words);
     let times: u64 = number(times)?;

@@ -4,7 +4,7 @@ use crate::shown::shown;
 use anyhow::Result;
 use std::alloc::Global;
 
-/// Answers in their order, printed by runs. Those of a run are equal, or their first numbers count up.
+/// Answers in their order, printed by runs of equal ones or of ones that count up.
 #[derive(Drop)]
 pub struct Series {
     alloc: Global,
@@ -12,7 +12,6 @@ pub struct Series {
     run: Option<Run>,
 }
 
-// Equal answers, or answers that count up.
 #[derive(Drop)]
 struct Run {
     first: String,
@@ -141,7 +140,6 @@ impl<'a> Numbered<'a> {
     }
 }
 
-// The text up to its first digit, or up to its first other byte, and the rest.
 fn cut_at(text: &[u8], digit: bool) -> (&[u8], &[u8]) {
     for at in 0..text.len() {
         if text[at].is_ascii_digit() == digit {

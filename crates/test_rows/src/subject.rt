@@ -4,9 +4,9 @@ use std::alloc::Global;
 
 /// What a row's actions are made on.
 pub trait Subject: Drop + Sized {
-    /// Begins a row by its subject and arguments. An error for unknown ones, or where no memory is left.
+    /// Begins a row by its subject and arguments.
     fn open(alloc: Global, words: &str) -> Result<Self>;
 
-    /// Makes one action, and returns its answer in words. An error for an unknown one.
+    /// Makes one action, and returns its answer in words.
     fn act(&mut self, alloc: Global, line: &str) -> Result<String>;
 }

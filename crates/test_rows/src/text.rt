@@ -11,7 +11,7 @@ pub fn first_word(line: &str) -> (&str, &str) {
     line.split_once(' ').unwrap_or((line, ""))
 }
 
-/// The error for a word that names nothing of this kind.
+/// The error for an unknown word.
 pub fn unknown<T>(kind: &str, word: &str) -> Result<T> {
     bail!("no {kind} is named {word:?}")
 }
@@ -75,7 +75,6 @@ enum Escape {
 }
 
 impl Escape {
-    // The state after this byte, and the byte that it completes.
     fn read(self, byte: u8) -> Result<(Escape, Option<u8>)> {
         match (self, byte) {
             (Escape::Outside, b'\\') => Ok((Escape::Begun, None)),

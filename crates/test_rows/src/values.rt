@@ -6,7 +6,6 @@ use resp_core::{Limits, Payload, Reader, SpelledCommand, Value, Values, put_text
 use splitter::Request;
 use std::alloc::Global;
 
-// A request of a given length has this many members. All but the first are written in 65,536 bytes each.
 const BIG_MEMBERS: usize = 1_024;
 
 const BIG_PAYLOAD: usize = 65_526;

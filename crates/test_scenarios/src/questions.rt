@@ -1,4 +1,3 @@
-//! Questions to the core beside events.
 
 use crate::proxy::Proxy;
 use anyhow::{Result, bail};
