@@ -217,7 +217,6 @@ fn run_one<Rt: Wait, K: Work<Rt> + Drop>(rt: &Rt, mut work: K) -> WorkResult
     work.run(rt)
 }
 
-// The lists must have room for the works.
 fn run_in<
     's,
     E,

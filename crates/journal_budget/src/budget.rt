@@ -7,7 +7,6 @@ use std::marker::Model;
 
 const JOURNAL_STEPS: u64 = limits::MAX_STEPS as u64;
 
-/// Steps lent to a worker, and those it spent.
 #[derive(Drop)]
 pub(crate) struct Loan {
     lent: u64,
@@ -46,7 +45,6 @@ impl Loan {
             .saturating_sub(self.spent)
     }
 
-    /// To be called once `Budget::lend` has lent them.
     pub(crate) fn borrow(&mut self, steps: u64)
         ensures { self.new ≡ borrowed steps self.old }
     {
@@ -63,7 +61,6 @@ impl Loan {
     }
 }
 
-/// The steps of one journal: those spent for good, and those lent.
 #[derive(Drop)]
 pub(crate) struct Budget {
     spent: u64,

@@ -15,11 +15,11 @@ use ticket_gate::{TurnRefusal, Turns};
 
 /// Turns that may stay inside a gate in between.
 pub trait HeldTurns: CoreTurns {
-    /// From here on a turn leaves the pass inside, where the next one needn't enter. Others wait meanwhile.
+    /// A turn leaves the pass inside from here on. Others wait meanwhile.
     fn hold(&mut self)
         ensures { self.new ≡ self.old };
 
-    /// Leaves the gate, if the pass is inside. From here on each turn leaves it too.
+    /// Leaves the gate, now and after each later turn.
     fn leave(&mut self)
         ensures { self.new ≡ self.old };
 }

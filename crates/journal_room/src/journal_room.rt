@@ -15,10 +15,10 @@ use std::mem;
 use std::sync::atomic::{AtomicBool, AtomicU64, Ordering};
 use std::sync::{Mutex, Wait};
 
-// Payload of this many bytes is reported to the other workers before room is decided.
+// Payload of this many bytes is reported before room is decided.
 const LARGE: u64 = 65_536;
 
-// From this average of payload bytes a step on, each accepted command is reported at once.
+// From this average of bytes a step on, each accepted command is reported at once.
 const LARGE_STEP: u64 = 8_192;
 
 // At most this many steps are lent to all workers together, but to each at least a command's.
@@ -59,7 +59,7 @@ impl JournalRoom {
         }
     }
 
-    /// Reports the worker's turns, takes back unspent steps, and lends this reserve again. Leaves the gate.
+    /// Reports the worker's turns, takes back unspent steps, and lends this reserve again. The turns leave the gate.
     pub fn settle<R: Wait, T: HeldTurns>(&self, rt: &R, turns: &mut CountedTurns<T>, reserve: u64)
         ensures turns { turns.new.turns ≡ turns.old.turns }
         ensures counts { turns.new.account.counts ≡ turns.old.account.counts }
@@ -76,7 +76,7 @@ impl JournalRoom {
         turns.account.borrow_steps(ledger, reserve);
     }
 
-    /// Lends this many steps. False: too few are left. Leaves the gate.
+    /// Lends this many steps. False: too few are left. The turns leave the gate.
     pub fn lend_steps<R: Wait, T: HeldTurns>(
         &self,
         rt: &R,
@@ -92,8 +92,8 @@ impl JournalRoom {
         turns.account.borrow_steps(&mut self.ledger.lock(rt), steps)
     }
 
-    /// Lends steps until the worker has enough for any command beside the reserve. False: too few are left. Leaves
-    /// the gate where it lends.
+    /// Lends steps until the worker has enough for any command beside the reserve. False: too few are left. The turns
+    /// leave the gate where the worker has too few.
     pub fn lend<R: Wait, T: HeldTurns>(
         &self,
         rt: &R,
@@ -121,7 +121,7 @@ impl JournalRoom {
     }
 
     /// Whether there is room for a further command, beside the reserve. `unfinished` bytes of the client's commands
-    /// aren't accepted yet. Leaves the gate where it reports large payload or lends steps.
+    /// aren't accepted yet. The turns leave the gate where large payload is reported or steps are lent.
     pub fn takes_command<R: Wait, T: HeldTurns>(
         &self,
         rt: &R,
@@ -145,7 +145,7 @@ impl JournalRoom {
     }
 
     /// Whether there is room for a reply of which `came` bytes have come, and the other workers know of `reported`. A
-    /// large one is reported first, and has to fit beside all others that are coming. Leaves the gate then.
+    /// large one is reported first, and has to fit beside all others that are coming. The turns leave the gate then.
     pub fn takes_reply<R: Wait, T: HeldTurns>(
         &self,
         rt: &R,

@@ -17,7 +17,6 @@ pub const READ_SIZE: usize = 16_384;
 // The most bytes of a first read, and the least length of the buffer.
 const MIN_READ_SIZE: usize = 1_024;
 
-// Whether memory was refused, and not a byte.
 fn is_memory(error: &RespError) -> bool
     ensures { (result ≡ true) ↔ (error.now ≡ RespError.NoMemory) }
 {

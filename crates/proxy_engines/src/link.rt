@@ -304,7 +304,6 @@ impl<R: ReadTally, W: WriteTally> Link<R, W> {
         unreachable!()
     }
 
-    /// Writes pending bytes once, or takes one part.
     pub(crate) fn send<Rt: Wait, T: CoreTurns>(
         &mut self,
         outbox: &mut HostOutbox,
@@ -361,7 +360,6 @@ impl<R: ReadTally, W: WriteTally> Link<R, W> {
         Ok(before.or(heard).or(after))
     }
 
-    /// One step on the link, until a fault must be recorded.
     pub(crate) fn step<Rt: Wait, T: CoreTurns>(
         &mut self,
         outbox: &mut HostOutbox,

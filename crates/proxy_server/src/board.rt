@@ -75,7 +75,6 @@ impl Board {
         self.newest.store(newest, Ordering::SeqCst);
     }
 
-    // In its slot or in a free one.
     fn show_older(&self, number: u64, phase: Phase) {
         let phase = match phase {
             Phase::GivingUp => GIVING_UP,

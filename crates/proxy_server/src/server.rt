@@ -142,7 +142,7 @@ impl<C: Drop> Server<C> {
         self.end_if_done(sockets);
     }
 
-    /// Counts a closed connection. The server ends after `connections` of them.
+    /// Counts a dropped socket. The last one ends a draining server.
     pub fn count_closed<R: Wait>(&self, rt: &R) {
         let mut sockets = self.sockets.lock(rt);
         sockets.close();
@@ -197,7 +197,7 @@ impl<C: Drop> Server<C> {
         self.wake(rt, queue);
     }
 
-    /// Whether a socket waits in a worker's queue.
+    /// Queues a socket and wakes its worker. Without memory the socket is closed.
     pub fn has_waiting<R: Wait>(&self, rt: &R, index: usize) -> bool {
         match self.queues.get(index) {
             Some(queue) => {
@@ -243,7 +243,7 @@ impl<C: Drop> Server<C> {
         }
     }
 
-    /// Takes the carried-over socket that waits longest.
+    /// Puts a carried-over socket back at the front. Without memory it is closed and counted.
     pub fn take_carried<R: Wait>(&self, rt: &R, index: usize) -> Option<C> {
         self.queues.get(index)?.carried.lock(rt).pop_front()
     }
@@ -316,7 +316,7 @@ impl<C: Drop> Server<C> {
         }
     }
 
-    /// The generation could not be opened. Too many failures in a row end the server.
+    /// The generation opens at this moment, and the wakers wake its workers.
     pub fn fail<R: Wait>(&self, rt: &R, number: u64, stop: Stop) {
         let is_last = self.generations.lock(rt).failed(number);
         if is_last {
@@ -378,7 +378,7 @@ impl<C: Drop> Server<C> {
         self.stats.lock(rt).gone(number, counts, steps);
     }
 
-    /// Adds the durations of commands.
+    /// A generation is gone, with these counts and steps.
     pub fn add_durations<R: Wait>(&self, rt: &R, durations: &Histogram) {
         self.stats.lock(rt).add_durations(durations);
     }
@@ -388,7 +388,7 @@ impl<C: Drop> Server<C> {
         self.stats.lock(rt).counts()
     }
 
-    /// The numbers of the server now.
+    /// The counts of all generations.
     pub fn snapshot<R: Wait>(&self, rt: &R) -> Snapshot {
         let (connections, closed) = {
             let sockets = self.sockets.lock(rt);

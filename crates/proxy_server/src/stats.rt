@@ -6,7 +6,7 @@ use proxy_pages::Look;
 use proxy_stats::{Counts, HostLoad, Load, Sight};
 use std::alloc::{AllocError, Global};
 
-// The most generations with a journal at a time: with connections, closing its gate, or opening.
+// With connections, closing their gates, or opening.
 const MAX_LIVING: usize = MAX_GENERATIONS + 2;
 
 #[derive(Clone, Copy, Drop)]
@@ -22,7 +22,6 @@ pub(crate) struct Stats {
     // Of generations that are gone.
     past: Counts,
     past_steps: u64,
-    // With room for `MAX_LIVING`.
     living: Vec<Living>,
     durations: Histogram,
 }
@@ -110,7 +109,6 @@ impl Stats {
         Look::NONE
     }
 
-    /// Added up.
     pub(crate) fn draining<H: Drop>(&self, generations: &Generations<H>) -> Look {
         let mut look = Look::NONE;
         for living in &self.living {

@@ -11,7 +11,7 @@ use std::net::SocketAddr;
 pub struct Failure {
     /// The action that failed, as `cannot listen on`.
     pub what: &'static str,
-    /// Its address; `None` if it has none.
+    /// Its address, if it has one.
     pub address: Option<SocketAddr>,
     /// The system's error.
     pub error: Error,
@@ -23,7 +23,7 @@ pub struct Failure {
 pub struct Stop {
     /// The program's ending.
     pub ending: Ending,
-    /// What failed; `None` if the ending says all.
+    /// What failed, unless the ending says all.
     pub failure: Option<Failure>,
 }
 

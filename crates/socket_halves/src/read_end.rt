@@ -84,7 +84,7 @@ impl ReadEnd {
         self.is_readable = true;
     }
 
-    /// The peer sends nothing more: from here on a short read doesn't say that all was read.
+    /// The peer sends nothing more, so that a short read doesn't say that all was read.
     pub fn set_closed(&mut self)
         ensures { self.new ≡ record self.old { is_closed = true } }
     {

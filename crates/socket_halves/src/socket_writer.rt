@@ -106,7 +106,7 @@ impl<S: Write> SocketWriter<S> {
         !self.output.is_empty()
     }
 
-    /// Whether bytes are buffered, or the rest of a text that the socket took in part waits.
+    /// Whether bytes are buffered, or the rest of a text waits.
     pub fn is_behind(&self) -> bool
         ensures { result ≡ (self.now.is_short
             || not (length self.now.output.buffered == 0)) }
@@ -114,7 +114,7 @@ impl<S: Write> SocketWriter<S> {
         self.is_short || self.has_buffered()
     }
 
-    /// Whether the socket may take buffered bytes, or the rest of a text that it took in part.
+    /// Whether the socket may take such bytes.
     pub fn may_write(&self) -> bool
         ensures { result ≡ (self.now.is_writable_again || may_write self.now.output) }
     {
@@ -172,7 +172,7 @@ impl<S: Write> Tally for SocketWriter<S> {
 impl<S: Write> Write for SocketWriter<S> {
     ghost contents = { λ _. None };
 
-    /// Takes these bytes as far as there is room.
+    /// Takes these bytes as far as there is room, and counts the result.
     fn write(&mut self, bytes: &[u8]) -> io::Result<usize>
         ensures bound { WritesAtMost result bytes.now }
         ensures bytes { WriteAppends None None result bytes.now }
@@ -205,7 +205,7 @@ impl<S: Write> Write for SocketWriter<S> {
 impl<S: Write> WriteTally for SocketWriter<S> {
     ghost taken = { λ w. accepted w.output };
 
-    /// The same, as an outcome.
+    /// As `write`, with its outcome.
     fn write_told(&mut self, bytes: &[u8]) -> IoOutcome
         requires some { bytes.now ≢ [] }
         ensures told { IsWritten (engine_writer self.old) (engine_writer self.new)

@@ -105,14 +105,13 @@ impl Stub {
     /// Answers the request by the table of commands, and changes the map:
     ///
     /// - GET key: the value as a bulk string, or the null bulk string.
-    /// - SET key value: simple `OK`; the key has this value from now on.
-    /// - DEL or UNLINK key ..: the number of keys removed from the map, as an integer.
-    /// - EXISTS or TOUCH key ..: the number of words that are keys, repeats counted, as an integer.
-    /// - INCR key: raises the number at the key by one and returns it, an integer. A missing key counts as 0. The value
-    ///   must be the one decimal spelling of a signed 64-bit number below the greatest; otherwise the answer is the error
-    ///   `ERR value is not an integer or out of range`.
-    /// - One of these with another number of words: the error `ERR wrong number of arguments`.
-    /// - Any other request: the error `ERR unknown command`.
+    /// - SET key value: simple `OK`.
+    /// - DEL or UNLINK key ..: the number of keys removed.
+    /// - EXISTS or TOUCH key ..: the number of words that are keys, repeats counted.
+    /// - INCR key: the number at the key, raised by one; a missing key counts as 0. The value must be the one decimal
+    ///   spelling of a signed 64-bit number below the greatest, or else `ERR value is not an integer or out of range`.
+    /// - Another number of words: `ERR wrong number of arguments`.
+    /// - Any other request: `ERR unknown command`.
     ///
     /// Names are compared without ASCII case. The script is neither read nor changed. Refused 1501 (no memory): the map
     /// is unchanged.

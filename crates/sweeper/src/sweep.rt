@@ -40,7 +40,7 @@ impl SweepRefusal {
 /// Makes a sweep at this moment in milliseconds, as one turn. Returns the numbers of hosts that it returned, ejected,
 /// and let stay though they tripped.
 ///
-/// Refused, the pass has no further step.
+/// Refused 1001, 1002 or 1202: the pass has no further step.
 pub fn sweep_once<R: Wait, T: CoreTurns>(
     rt: &R,
     turns: &mut T,
