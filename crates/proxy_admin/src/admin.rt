@@ -1,4 +1,3 @@
-
 use crate::operated::Operated;
 use crate::visits::{LISTENER, Visits};
 use mio::net::TcpListener;

@@ -1,4 +1,3 @@
-
 use proxy_pages::{Order, Snapshot};
 use std::io::Error;
 use std::rt::Clock;

@@ -1,4 +1,3 @@
-
 use http_server::{Config as Limits, Connection};
 use limits::{MAX_BODY, MAX_HEAD, VISIT_MS};
 use mio::net::TcpStream;

@@ -1,4 +1,3 @@
-
 use crate::histogram::Histogram;
 use std::alloc::Global;
 use std::collections::VecDeque;

@@ -1,4 +1,3 @@
-
 /// The severity of a line, as in syslog.
 #[derive(Clone, Copy, Debug, PartialEq, Eq)]
 pub enum Level {

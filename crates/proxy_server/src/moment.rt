@@ -1,4 +1,3 @@
-
 use std::rt::Clock;
 
 /// The clock's milliseconds; 0 where it can't be read.

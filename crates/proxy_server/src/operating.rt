@@ -1,4 +1,3 @@
-
 use crate::log::Level;
 use crate::moment::now;
 use crate::server::Server;

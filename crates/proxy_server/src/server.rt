@@ -1,4 +1,3 @@
-
 use crate::board::Board;
 use crate::log::{Level, Log};
 use crate::stats::Stats;

@@ -1,4 +1,3 @@
-
 use limits::{MAX_GENERATIONS, MAX_HOSTS};
 use proxy_generations::Generations;
 use proxy_histogram::Histogram;

@@ -1,4 +1,3 @@
-
 use proxy_admin::OpenError;
 use proxy_exit_status::Ending;
 use std::alloc::{AllocError, AllocFailed};

@@ -1,4 +1,3 @@
-
 use crate::fake_devices::{Feed, Taken};
 use std::alloc::Global;
 use std::cell::Cell;

@@ -1,4 +1,3 @@
-
 // A client's requests, and the answers.
 pub(crate) type Exchange = (&'static [u8], &'static [u8]);
 

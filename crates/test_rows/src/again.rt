@@ -1,4 +1,3 @@
-
 /// Makes a call, and once more if it fails, since memory may have been refused.
 #[macro_export]
 macro_rules! again {

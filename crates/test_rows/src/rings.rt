@@ -1,4 +1,3 @@
-
 use crate::text::number;
 use anyhow::{Result, bail};
 use ketama::{HostName, Ring, RingError};

@@ -1,4 +1,3 @@
-
 use crate::again;
 use crate::series::Series;
 use crate::subject::Subject;

@@ -1,4 +1,3 @@
-
 use crate::again;
 use crate::shown::shown;
 use anyhow::Result;

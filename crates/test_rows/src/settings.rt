@@ -1,4 +1,3 @@
-
 use crate::shown::shown;
 use crate::text::unknown;
 use anyhow::Result;

@@ -1,4 +1,3 @@
-
 use crate::again;
 use crate::text::put_escaped;
 use anyhow::Result;

@@ -1,4 +1,3 @@
-
 use crate::text::{first_word, number, unescaped, word_bytes};
 use anyhow::{Result, bail};
 use bytes::Bytes;

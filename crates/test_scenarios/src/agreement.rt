@@ -1,4 +1,3 @@
-
 use anyhow::Result;
 use std::alloc::Global;
 use test_rows::shown::shown;

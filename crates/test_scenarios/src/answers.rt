@@ -1,4 +1,3 @@
-
 use anyhow::Result;
 use proxy_core::{Answer, Field, Local, Refusal};
 use std::alloc::Global;

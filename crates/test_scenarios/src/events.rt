@@ -1,4 +1,3 @@
-
 use anyhow::Result;
 use proxy_core::{Event, Kind};
 use std::alloc::Global;

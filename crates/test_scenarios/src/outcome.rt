@@ -1,4 +1,3 @@
-
 use crate::answers::{answer_text, refusal_text};
 use crate::proxy::Proxy;
 use anyhow::Result;

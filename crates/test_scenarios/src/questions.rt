@@ -1,4 +1,3 @@
-
 use crate::proxy::Proxy;
 use anyhow::{Result, bail};
 use proxy_core::Core;

@@ -1,4 +1,3 @@
-
 use crate::answers::{answer_text, put_answer, refusal_text};
 use crate::events::event_of;
 use crate::outcome::outcome;

@@ -1,4 +1,3 @@
-
 use anyhow::Result;
 use ketama::Ring;
 use proxy_core::{Core, Handover, Refusal, Settings};
