@@ -78,7 +78,7 @@ fn print_pieces<R: Clock + Print>(rt: &R, alloc: Global, name: &str, bytes: &[u8
     Ok(())
 }
 
-// Of reading and copying.
+// Prints the speeds of reading and of copying.
 fn print_speeds<R: Print>(
     rt: &R,
     name: &str,

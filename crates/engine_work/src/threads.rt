@@ -109,7 +109,6 @@ fn begin<'s, E, Rt: Wait, K: Work<Rt>, F: FnOnce() -> WorkResult + Send + 's>(
     }
 }
 
-// There must be room for them.
 fn begin_all<
     's,
     E,
@@ -138,7 +137,6 @@ fn begin_all<
     begun
 }
 
-// There must be room for them.
 fn settle_all<Rt: Wait, K: Work<Rt>, F: FnOnce() -> WorkResult + Drop>(
     begun: Vec<Begun<Rt, K, F>>,
     room: Vec<Settled<Rt, K>>,

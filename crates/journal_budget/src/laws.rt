@@ -1,4 +1,3 @@
-//! What follows from the contracts.
 ghost use Rattle.journal_budget.specs.BudgetLaws.{CommandFits, OwedFits, OwedIsPaid, PaysAtFirst, PaysOnceLent, PaysOnceNoted, PaysOnceSettled};
 
 /// A command of at most 1,023 parts costs at most `MAX_COMMAND_STEPS` steps.

@@ -1,5 +1,4 @@
-//! How much room the journal of a generation has: what a step costs, which steps are lent to a worker, and how many
-//! bytes are expected.
+//! How much room the journal of a generation has, in steps and in bytes.
 //!
 //! Each worker has an [`Account`], and reports to the journal's [`Ledger`] now and then. Which steps were made is the
 //! caller's to say. It stands on `limits`. Begin with `account.rt`.

@@ -66,8 +66,8 @@ impl Payload {
         }
     }
 
-    /// Adds a worker's report. `came` counts the proxy's own replies too, and `steps` those of the average. Each sum
-    /// stays at the greatest `u64`.
+    /// `came` counts the proxy's own replies too, and `steps` those of the average. Each sum stays at the greatest
+    /// `u64`.
     pub(crate) fn note(&mut self, used: u64, came: u64, handed: u64, steps: u64)
         ensures used { self.new.used ≡ capped (self.old.used + used) }
         ensures came { self.new.came ≡ capped (self.old.came + came) }
@@ -117,7 +117,6 @@ impl Payload {
             <= MAX_BYTES
     }
 
-    /// It needs room for these bytes and one more read, for handing them out, and for the texts of errors.
     pub(crate) fn takes_reply(&self, unfinished: u64) -> bool
         ensures { IsTrue result ↔ HasRoomForReply self.now unfinished }
     {
@@ -140,7 +139,7 @@ impl Payload {
         self.steps >= FIRST_STEPS && grown.takes_in(owed.saturating_add(FAR_STEPS), FAR_BYTES)
     }
 
-    // The payload bytes in the journal, and those of replies that are still to be handed out.
+    // With those of replies that are still to be handed out.
     fn kept(&self) -> u64
         ensures { result ≡ capped (kept_bytes self.now) }
     {

@@ -61,7 +61,7 @@ impl Reported {
         self.average
     }
 
-    /// So far that room needn't be computed while little comes.
+    /// Whether the journal was so far from full that room needn't be computed while little comes.
     #[inline(always)]
     pub(crate) fn is_far(&self) -> bool
         ensures far { IsTrue result → IsFarFromFull self.now.payload self.now.owed }

@@ -48,7 +48,7 @@ impl StepKind {
         }
     }
 
-    /// The steps that it sets free: owed ones that it replaces, beside itself.
+    /// The owed steps that it replaces, beside itself.
     #[inline(always)]
     pub fn freed(self) -> u64
         ensures { result ≡ freed_of self }

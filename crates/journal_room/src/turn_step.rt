@@ -9,7 +9,7 @@ const MAX_OWN_WORD: u64 = 8;
 
 const MAX_OWN_ERROR: u64 = 96;
 
-// None of an answer that isn't its own.
+// The most bytes of the proxy's own answer to a command; 0 for any other answer.
 fn own_bytes(local: &Option<Local>, command: u64) -> u64
     ensures { result ≡ own_bytes local.now command }
 {

@@ -50,7 +50,7 @@ impl Drop for AdminListener {
 }
 
 impl AdminListener {
-    /// Makes a poll for the listener. Fails where the system refuses.
+    /// Makes a poll for the listener. Fails with `NoPoll` or `NotPolled` where the system refuses.
     pub fn open<R: Net>(
         rt: &R,
         alloc: Global,

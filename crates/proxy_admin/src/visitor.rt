@@ -7,7 +7,7 @@ use std::hash::RandomState;
 use std::io;
 use std::io::ErrorKind;
 
-// In a round.
+// The most reads and writes of one visitor in a round.
 const MAX_MOVES: u32 = 16;
 
 const VISIT_READ_SIZE: usize = 1_024;
@@ -102,7 +102,7 @@ impl Visitor {
         }
     }
 
-    // After a round with this result.
+    // Whether the visit is over after a round with this result.
     fn is_over(&mut self, moved: Moved, moment: u64) -> bool {
         match moved {
             Moved::Something => {

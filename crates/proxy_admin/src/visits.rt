@@ -127,7 +127,7 @@ impl Visits {
         Ok(())
     }
 
-    // Every visitor: they are few.
+    // Steps every visitor: they are few.
     fn serve_visitors<R: Wait + Eprint, S: Operated>(
         &mut self,
         rt: &R,

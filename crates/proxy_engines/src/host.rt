@@ -359,7 +359,6 @@ impl<R: ReadTally + Drop, W: WriteTally + Drop> HostEngine<R, W> {
         }
     }
 
-    // Where there is a link and no unrecorded fault.
     fn send_on<Rt: Wait, T: CoreTurns>(
         &mut self,
         rt: &Rt,

@@ -1,4 +1,3 @@
-//! Laws that follow from the contracts.
 ghost use Rattle.proxy_generations.specs.Laws.{AllOpenInTurn, DrainInOrder, FewDrain, GivenUpIfNear, NewestHandsOver, OldestIsInTheWay, OneIsOpen, OpenHaveConnections, StopsIfFull};
 
 /// At most `MAX_GENERATIONS` generations have connections. The next one opens only while one more may drain, from the

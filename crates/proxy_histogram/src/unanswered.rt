@@ -14,7 +14,7 @@ const NONE: Run = Run { since: 0, count: 0 };
 /// commands.
 #[derive(Drop)]
 pub struct Unanswered {
-    // None of these runs is empty.
+    // No run is empty.
     first: Run,
     later: VecDeque<Run>,
 }

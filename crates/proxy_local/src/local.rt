@@ -99,7 +99,7 @@ fn open_client<Rt: Wait, T: CoreTurns, R: Read + Drop, W: Write + Drop>(
     }
 }
 
-// The buffered bytes are written in any case.
+// Runs the client until it ends; the buffered bytes are written in any case.
 fn run_to_end<
     Rt: Wait,
     R: ReadTally + Drop,

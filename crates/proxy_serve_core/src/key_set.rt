@@ -34,7 +34,7 @@ impl KeySet {
         }
     }
 
-    /// In whole words. Without memory nothing changes.
+    /// Makes room in whole words. Without memory nothing changes.
     pub(crate) fn reserve(&mut self, capacity: usize) -> Result<(), AllocError>
         ensures room { OnOk result (capacity_of self.new
             ≡ max (capacity_of self.old) (whole_words capacity)) }
@@ -48,7 +48,7 @@ impl KeySet {
         Ok(())
     }
 
-    /// False: past the capacity; nothing changes.
+    /// False: the key is past the capacity, and nothing changes.
     pub(crate) fn insert(&mut self, key: usize) -> bool
         ensures fits { IsTrue result ↔ (key < capacity_of self.old) }
         ensures adds { OnTrue result (AddsKey key self.old self.new) }
@@ -73,7 +73,7 @@ impl KeySet {
         }
     }
 
-    /// Bit i of `bits` stands for key 64 `index` + i. False: past the capacity; nothing changes.
+    /// Bit i of `bits` stands for key 64 `index` + i. False: these are past the capacity, and nothing changes.
     pub(crate) fn insert_word(&mut self, index: usize, bits: u64) -> bool
         ensures fits { IsTrue result ↔ (index < length self.old) }
         ensures adds { OnTrue result (AddsKeysOfWord index bits self.old self.new) }

@@ -46,7 +46,6 @@ fn number_behind(status: &[u8], name: &[u8]) -> u64 {
     }
 }
 
-// The text behind the first occurrence of `text`.
 fn behind<'a>(status: &'a [u8], text: &[u8]) -> Option<&'a [u8]> {
     for start in 0..status.len() {
         if let Some(rest) = status[start..].strip_prefix(text) {

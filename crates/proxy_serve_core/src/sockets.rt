@@ -88,7 +88,7 @@ impl Sockets {
         self.is_draining = true;
     }
 
-    /// Whether the server is done: `most` connections have closed, or it drains and no socket is open.
+    /// Whether `most` connections have closed, or the server drains and no socket is open.
     pub fn are_done(&self) -> bool
         ensures { IsTrue result ↔ AreDone self.now }
     {

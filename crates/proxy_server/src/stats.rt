@@ -5,7 +5,7 @@ use proxy_pages::Look;
 use proxy_stats::{Counts, HostLoad, Load, Sight};
 use std::alloc::{AllocError, Global};
 
-// With connections, closing their gates, or opening.
+// Generations with connections, those closing their gates, and one that opens.
 const MAX_LIVING: usize = MAX_GENERATIONS + 2;
 
 #[derive(Clone, Copy, Drop)]

@@ -68,7 +68,7 @@ fn is_interrupted(told: &io::Result<usize>) -> bool
     }
 }
 
-// Again where it is interrupted.
+// Writes once; again where it is interrupted.
 fn write_once<W: Write>(writer: &mut W, bytes: &[u8]) -> io::Result<usize>
     ensures bound { WritesAtMost result bytes.now }
     ensures bytes { WriteAppends (W.contents writer.old) (W.contents writer.new) result bytes.now }

@@ -1,4 +1,3 @@
-//! Laws of the map and of numbers.
 ghost use Rattle.stub_server.specs.Laws.{SetKeyHasItsValue, RemovedKeyHasNoValue, KeysStayDistinct, NumberHasOneSpelling};
 
 /// A key that was set has its new value, and all other keys keep theirs.

@@ -28,9 +28,9 @@ pub struct StubReader {
 
 /// The end that requests are written to, in texts that a client may send.
 ///
-/// A write takes at most `MAX_TAKEN` bytes. No request is served while `MAX_UNREAD` or more bytes of replies are
-/// unread, or without memory: it waits for a later read or write. Meanwhile a write returns `WouldBlock`. Once the
-/// link has ended, by `Act::Drop` or at a byte that fits no text, it returns `BrokenPipe`. It has no other error.
+/// A write takes at most `MAX_TAKEN` bytes. While `MAX_UNREAD` or more bytes of replies are unread, or without
+/// memory, requests wait, and a write returns `WouldBlock`. Once the link has ended, by `Act::Drop` or at a byte that
+/// fits no text, it returns `BrokenPipe`. It has no other error.
 #[derive(Drop)]
 pub struct StubWriter {
     session: Arc<Mutex<Session>>,

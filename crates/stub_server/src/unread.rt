@@ -84,7 +84,7 @@ impl Unread {
         self.given = 0;
     }
 
-    // As many as fit; returns their number.
+    // Moves as many bytes as fit; returns their number.
     pub(crate) fn give(&mut self, buffer: &mut [u8]) -> usize
         ensures count { result ≡ min (length buffer.old) (length self.old) }
         ensures bytes { take result buffer.new ≡ take result self.old }

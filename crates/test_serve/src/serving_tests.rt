@@ -1,4 +1,4 @@
-//! Generations of few steps, and of a full journal, with all ends in one process.
+//! Generations of few steps, and of a full journal.
 use crate::rig::{PING, PONG, anywhere, say, serve};
 use mio::net::TcpListener;
 use proxy_serve::Marks;
