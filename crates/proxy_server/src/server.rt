@@ -323,20 +323,19 @@ impl<C: Drop> Server<C> {
         }
     }
 
-    /// Hosts have answered commands of a draining generation by this moment.
+    /// As [`Generations::progressed`].
     pub fn progressed<R: Wait>(&self, rt: &R, number: u64, now: u64) {
         self.generations.lock(rt).progressed(number, now);
     }
 
-    /// The newest generation is near its marks at this moment.
+    /// As [`Generations::near`].
     pub fn near<R: Wait>(&self, rt: &R, number: u64, now: u64) {
         let mut generations = self.generations.lock(rt);
         generations.near(number, now);
         self.board.show(&generations);
     }
 
-    /// The newest generation has reached its marks at this moment, or takes in nothing more. The next one starts from
-    /// the last such state.
+    /// As [`Generations::full`]. The next one starts from the state of the last call.
     pub fn full<R: Wait>(&self, rt: &R, number: u64, now: u64, from: Inherited) {
         let mut generations = self.generations.lock(rt);
         if let Some(from) = generations.renew(number, from) {
@@ -345,19 +344,19 @@ impl<C: Drop> Server<C> {
         self.publish(generations);
     }
 
-    /// A draining generation has no connection left.
+    /// As [`Generations::drained`].
     pub fn drained<R: Wait>(&self, rt: &R, number: u64) {
         let mut generations = self.generations.lock(rt);
         generations.drained(number);
         self.publish(generations);
     }
 
-    /// Whether the generation has to sweep at this moment.
+    /// As [`Generations::is_sweep_due`].
     pub fn is_sweep_due<R: Wait>(&self, rt: &R, number: u64, now: u64) -> bool {
         self.generations.lock(rt).is_sweep_due(number, now)
     }
 
-    /// The generation made a sweep at this moment.
+    /// As [`Generations::swept`].
     pub fn swept<R: Wait>(&self, rt: &R, number: u64, now: u64) {
         self.generations.lock(rt).swept(number, now);
     }

@@ -16,7 +16,7 @@ pub fn escaped(alloc: Global, bytes: &[u8]) -> Result<String> {
     Ok(text)
 }
 
-/// A refusal's number, name and fields in words.
+/// A refusal's number, name and fields.
 pub fn refusal_words(alloc: Global, number: u16, refusal: &impl Debug) -> Result<String> {
     let shown = shown(alloc, format_args!("{number} {refusal:?}"))?;
     again!(without_marks(alloc, shown.as_str()))

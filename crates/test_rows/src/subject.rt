@@ -6,6 +6,6 @@ pub trait Subject: Drop + Sized {
     /// Begins a row by its subject and arguments.
     fn open(alloc: Global, words: &str) -> Result<Self>;
 
-    /// Makes one action, and returns its answer in words.
+    /// Makes one action, and returns its answer.
     fn act(&mut self, alloc: Global, line: &str) -> Result<String>;
 }
