@@ -134,14 +134,14 @@ impl<C: Drop> Server<C> {
         }
     }
 
-    /// Counts a socket that is dropped. The last one ends a draining server.
+    /// Counts a dropped socket. The last one ends a draining server.
     pub fn count_dropped<R: Wait>(&self, rt: &R) {
         let mut sockets = self.sockets.lock(rt);
         sockets.let_go();
         self.end_if_done(sockets);
     }
 
-    /// Counts a dropped socket. The last one ends a draining server.
+    /// Counts a closed connection. The server ends after `connections` of them.
     pub fn count_closed<R: Wait>(&self, rt: &R) {
         let mut sockets = self.sockets.lock(rt);
         sockets.close();
@@ -185,7 +185,7 @@ impl<C: Drop> Server<C> {
         self.halt();
     }
 
-    /// Queues a socket for a worker and wakes it. Without memory the socket is closed.
+    /// Queues a socket and wakes its worker. Without memory the socket is closed.
     pub fn push<R: Wait>(&self, rt: &R, index: usize, stream: TcpStream) {
         let Some(queue) = self.queues.get(index) else {
             return self.count_dropped(rt);
@@ -196,7 +196,7 @@ impl<C: Drop> Server<C> {
         self.wake(rt, queue);
     }
 
-    /// Queues a socket and wakes its worker. Without memory the socket is closed.
+    /// Whether a socket waits in a worker's queue.
     pub fn has_waiting<R: Wait>(&self, rt: &R, index: usize) -> bool {
         match self.queues.get(index) {
             Some(queue) => {
@@ -232,7 +232,7 @@ impl<C: Drop> Server<C> {
         self.wake(rt, queue);
     }
 
-    /// Puts a carried-over socket that can't be opened yet back at the front. Without memory it is closed and counted.
+    /// Puts a carried-over socket back at the front. Without memory it is closed and counted.
     pub fn carry_back<R: Wait>(&self, rt: &R, index: usize, carried: C) {
         let Some(queue) = self.queues.get(index) else {
             return self.count_closed_and_dropped(rt);
@@ -242,7 +242,7 @@ impl<C: Drop> Server<C> {
         }
     }
 
-    /// Puts a carried-over socket back at the front. Without memory it is closed and counted.
+    /// Takes the carried-over socket that waits longest.
     pub fn take_carried<R: Wait>(&self, rt: &R, index: usize) -> Option<C> {
         self.queues.get(index)?.carried.lock(rt).pop_front()
     }
@@ -303,7 +303,7 @@ impl<C: Drop> Server<C> {
         self.generations.lock(rt).take_due()
     }
 
-    /// The generation opens at this moment: new sockets come to it, and the wakers wake its workers.
+    /// The generation opens at this moment, and the wakers wake its workers.
     pub fn open<R: Wait>(&self, rt: &R, number: u64, now: u64, wakers: Vec<Waker>) {
         let mut generations = self.generations.lock(rt);
         generations.opened(number, now);
@@ -315,7 +315,7 @@ impl<C: Drop> Server<C> {
         }
     }
 
-    /// The generation opens at this moment, and the wakers wake its workers.
+    /// The generation could not be opened. Too many failures in a row end the server.
     pub fn fail<R: Wait>(&self, rt: &R, number: u64, stop: Stop) {
         let is_last = self.generations.lock(rt).failed(number);
         if is_last {
@@ -371,22 +371,22 @@ impl<C: Drop> Server<C> {
         self.ejections.lock(rt)
     }
 
-    /// Records that a generation is gone, with its counts and steps.
+    /// A generation is gone, with these counts and steps.
     pub fn gone<R: Wait>(&self, rt: &R, number: u64, counts: &Counts, steps: u64) {
         self.stats.lock(rt).gone(number, counts, steps);
     }
 
-    /// A generation is gone, with these counts and steps.
+    /// Adds the durations of commands.
     pub fn add_durations<R: Wait>(&self, rt: &R, durations: &Histogram) {
         self.stats.lock(rt).add_durations(durations);
     }
 
-    /// The counts of all generations; of living ones by their last sight.
+    /// The counts of all generations.
     pub fn counts<R: Wait>(&self, rt: &R) -> Counts {
         self.stats.lock(rt).counts()
     }
 
-    /// The counts of all generations.
+    /// The numbers of the server now.
     pub fn snapshot<R: Wait>(&self, rt: &R) -> Snapshot {
         let (connections, closed) = {
             let sockets = self.sockets.lock(rt);

@@ -24,6 +24,7 @@ pub struct WriteBuffer<W: Write> {
     writer: W,
     taken: ByteLog,
     bytes: Vec<u8>,
+    // Bytes in front that are written.
     written: usize,
     is_writable: bool,
     is_broken: bool,
