@@ -13,16 +13,15 @@ use std::time::{Duration, Instant};
 use test_total::AdditionRefusal;
 use ticket_gate::{Gate, Recorded, Seated, Spare, Turns};
 
-/// The numbers of threads.
 const THREADS: [usize; 4] = [1, 2, 4, 8];
 
-/// The turns of all threads together if nothing is timed.
+/// If nothing is timed.
 const FEW_TURNS: u64 = 20_000;
 
-/// The turns of all threads together if they are timed.
+/// If they are timed.
 const MANY_TURNS: u64 = 400_000;
 
-/// The rounds of work of some 200 ns.
+/// Work of some 200 ns.
 const ROUNDS: u32 = 80;
 
 /// The work of a thread: that of each turn, and the rounds after it.
@@ -86,7 +85,7 @@ struct Trial {
     work: Work,
 }
 
-// Adds 1 `times` times, and works after each turn. Returns the result of the work.
+// Adds 1 `times` times, and works after each turn.
 fn make_turns<T: Turns<Event = u64, Answer = u64, Refusal = AdditionRefusal>, R: Wait>(
     rt: &R,
     turns: &mut T,
@@ -101,7 +100,6 @@ fn make_turns<T: Turns<Event = u64, Answer = u64, Refusal = AdditionRefusal>, R:
     seed
 }
 
-// A gate around a new state, and its first spare place.
 fn open<S: Recorded + Drop>(alloc: Global, state: S) -> Result<(Gate<S>, Spare<S>)>
     requires { S.journal state ≡ [] }
     ensures { IfOk result (λ made. IsSpareOf made.0 made.1) }
@@ -115,7 +113,6 @@ fn open<S: Recorded + Drop>(alloc: Global, state: S) -> Result<(Gate<S>, Spare<S
     }
 }
 
-/// Enrols this many passes, and seats each at the gate.
 fn seat_passes<'a, R: Wait>(
     rt: &R,
     alloc: Global,
@@ -192,14 +189,12 @@ impl Trial {
         Ok(state.into_inner().turns())
     }
 
-    // Turns a second at a gate.
     fn gate_speed<R: Threads + Wait + Sync + Clock>(&self, rt: &R, alloc: Global) -> Result<u128> {
         let start = Instant::now(rt)?;
         let turns = self.at_a_gate(rt, alloc)?;
         Ok(per_second(turns, start.elapsed(rt)?))
     }
 
-    // Turns a second under a mutex.
     fn mutex_speed<R: Threads + Wait + Sync + Clock>(&self, rt: &R, alloc: Global) -> Result<u128> {
         let start = Instant::now(rt)?;
         let turns = self.under_a_mutex(rt, alloc)?;
@@ -227,7 +222,7 @@ fn per_second(turns: usize, time: Duration) -> u128 {
     turns as u128 * 1_000_000_000 / time.as_nanos().max(1)
 }
 
-/// Makes few turns by 1, 2, 4 and 8 threads both ways, and prints the lengths of the journals.
+/// Few turns by each number of threads both ways; prints the lengths of the journals.
 pub(crate) fn print_few<R: Threads + Wait + Sync + Print>(rt: &R, alloc: Global) -> Result<()> {
     for threads in THREADS {
         let few = Trial {
@@ -242,7 +237,7 @@ pub(crate) fn print_few<R: Threads + Wait + Sync + Print>(rt: &R, alloc: Global)
     Ok(())
 }
 
-/// Makes many turns by 1, 2, 4 and 8 threads both ways, and prints the turns a second.
+/// Many turns by each number of threads both ways; prints the turns a second.
 pub(crate) fn print_speeds<R: Threads + Wait + Sync + Clock + Print>(
     rt: &R,
     alloc: Global,

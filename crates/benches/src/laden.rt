@@ -5,7 +5,6 @@ use std::alloc::Global;
 use test_total::{AdditionRefusal, RunningTotal};
 use ticket_gate::Recorded;
 
-/// The work of a turn.
 #[derive(Clone, Copy, Drop)]
 pub(crate) struct TurnWork {
     /// The rounds of each turn.
@@ -47,7 +46,6 @@ impl Laden {
         self.total.steps().len()
     }
 
-    // The rounds of the next turn.
     fn rounds(&self) -> u32 {
         if self.work.stops && self.turns() % STOP_EVERY == 0 {
             STOP_ROUNDS

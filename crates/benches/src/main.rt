@@ -1,14 +1,13 @@
-//! Measures the gate and the reader, each on its own; `bench/compare` measures the program. It stands on both. Begin with
-//! `gate.rt`.
+//! Measures the gate and the reader, each on its own; `bench/compare` measures the program. It stands on both. Begin
+//! with `gate.rt`.
 //!
 //! `benches gate time` prints the turns a second of 1, 2, 4 and 8 threads on one running total, at a ticket gate and
-//! under std's `Mutex`. The turns only add, or take some 200 ns, or take these and have some 400 ns of other work after each; and
-//! the last, with one turn of 1,000 that stops for a millisecond. Busy loops beside it show a machine that has other work.
+//! under std's `Mutex`. Busy loops beside it show a machine that has other work.
 //!
 //! `benches reader time` prints the bytes a second of the reader, and of a plain copy.
 //!
-//! Without words it prints its usage and the lengths of the journals of a few turns, so that this output is always the
-//! same.
+//! Without words it prints its usage and the lengths of the journals of a few turns, so that this output is always
+//! the same.
 #![tactic(auto)]
 
 mod gate;
@@ -21,7 +20,6 @@ use std::env;
 const HELP: &str = "benches gate time: prints turns a second at a gate, and under a mutex
 benches reader time: prints bytes a second of a reader, and of a plain copy";
 
-// The chosen measurement.
 #[derive(Clone, Copy)]
 enum Asked {
     Gate,

@@ -6,7 +6,6 @@ use std::alloc::Global;
 use std::rt::Clock;
 use std::time::{Duration, Instant};
 
-// The lengths of pieces.
 const PIECES: [usize; 2] = [16_384, 1];
 
 // Texts, each repeated this many times.
@@ -61,8 +60,7 @@ const STREAMS: [Stream; 4] = [
     },
 ];
 
-/// Prints for each stream and each length of pieces the bytes a second that are read, and those that are copied into
-/// one buffer in the same pieces.
+/// Prints for each stream and length of pieces the bytes a second that are read, and those that are copied.
 pub(crate) fn print<R: Clock + Print>(rt: &R, alloc: Global) -> Result<()> {
     for stream in &STREAMS {
         let bytes = stream.bytes(alloc)?;
@@ -80,7 +78,7 @@ fn print_pieces<R: Clock + Print>(rt: &R, alloc: Global, name: &str, bytes: &[u8
     Ok(())
 }
 
-// Prints the speeds of reading and copying this many bytes in pieces of this length.
+// Prints the speeds of reading and of copying.
 fn print_speeds<R: Print>(
     rt: &R,
     name: &str,
@@ -115,14 +113,13 @@ fn put(bytes: &mut Vec<u8>, text: Repeated) -> Result<()> {
     Ok(())
 }
 
-// The time to read the stream's values in pieces of this length.
 fn time_read<R: Clock>(rt: &R, alloc: Global, bytes: &[u8], piece: usize) -> Result<Duration> {
     let start = Instant::now(rt)?;
     read(alloc, bytes, piece)?;
     Ok(start.elapsed(rt)?)
 }
 
-// Reads the stream's values in pieces of this length.
+// In pieces of this length.
 fn read(alloc: Global, bytes: &[u8], piece: usize) -> std::result::Result<(), RespError> {
     let mut reader = Reader::new(alloc, Limits::CLIENT);
     let was_read = read_with(&mut reader, bytes, piece);
@@ -155,7 +152,6 @@ fn take_values(reader: &mut Reader, most: usize) -> std::result::Result<(), Resp
     Ok(())
 }
 
-// The time to copy the stream in pieces of this length.
 fn time_copied<R: Clock>(rt: &R, alloc: Global, bytes: &[u8], piece: usize) -> Result<Duration> {
     let start = Instant::now(rt)?;
     let mut copy = Vec::new(alloc);
@@ -169,7 +165,6 @@ fn bytes_a_second(bytes: usize, elapsed: Duration) -> u64 {
     (bytes as u64).saturating_mul(1_000_000) / micros(elapsed).max(1)
 }
 
-// The microseconds of a duration.
 fn micros(elapsed: Duration) -> u64 {
     elapsed
         .as_secs()

@@ -1,4 +1,3 @@
-//! Errors of engines.
 ghost use Rattle.std.specs.Prelude.{◌≡◌};
 ghost use Rattle.engine_work.specs.EngineError.{denied_number, number_of};
 
@@ -17,7 +16,7 @@ pub enum Denied {
 }
 
 impl Denied {
-    /// The number by which it is documented: the refusal's for `By`, 1006 for `Astray`, and 1202 for `Spent`.
+    /// Its number: 1202, the refusal's own, or 1006.
     pub fn number(&self) -> u16
         ensures { result ≡ denied_number self.now }
     {
@@ -47,9 +46,9 @@ impl fmt::Display for Denied {
 pub enum EngineError {
     /// 1401: memory was refused.
     NoMemory,
-    /// 1402: a read failed. The connection was closed, or the fault recorded.
+    /// 1402: a read failed.
     ReadFailed,
-    /// 1403: a write failed. The connection was closed, or the fault recorded.
+    /// 1403: a write failed.
     WriteFailed,
     /// 1404: a turn was refused.
     TurnRefused(Denied),

@@ -1,4 +1,3 @@
-//! Works in threads of their own.
 ghost use Rattle.std.specs.Prelude.{◌≡◌, ◌≤◌, IfOk, IfErr, vec_len, vec_capacity, ⊤, [], Result, All};
 ghost use Rattle.std.specs.List.{AllZip};
 ghost use Rattle.engine_work.specs.Works.{Answers, IsBegun, IsCallable, Settles};
@@ -13,10 +12,8 @@ use std::sync::Wait;
 use std::thread;
 use std::thread::{Promise, PromisedHandle, Scope, Threads};
 
-// The result of a work's run.
 type WorkResult = Result<(), EngineError>;
 
-// The promise that an answer is one that the work may give.
 #[derive(Drop)]
 struct AnswerOf<Rt: Wait, K: Work<Rt>> {
     work: Snapshot<K>,
@@ -29,7 +26,7 @@ impl<Rt: Wait, K: Work<Rt>> Promise<WorkResult> for AnswerOf<Rt, K> {
     ghost kept_by = { λ promise answer. K.may_answer promise.work.value answer };
 }
 
-// A thread that runs a work. Contracts see the work.
+// A thread that runs a work.
 #[derive(Drop)]
 struct Started<Rt: Wait, K: Work<Rt>> {
     handle: PromisedHandle<WorkResult, AnswerOf<Rt, K>>,
@@ -44,7 +41,6 @@ impl<Rt: Wait, K: Work<Rt>> Model for Started<Rt, K> {
 }
 
 impl<Rt: Wait, K: Work<Rt>> Started<Rt, K> {
-    // Waits for its answer.
     fn join<H: Threads>(self, rt: &H) -> WorkResult
         ensures { K.may_answer self result }
     {
@@ -53,14 +49,13 @@ impl<Rt: Wait, K: Work<Rt>> Started<Rt, K> {
     }
 }
 
-// A work to run: a thread runs it, or none was to be had for its call.
+// A thread runs the work, or none was to be had for its call.
 #[derive(Drop)]
 enum Begun<Rt: Wait, K: Work<Rt>, F> {
     There(Started<Rt, K>),
     Left(F),
 }
 
-// A work that a thread runs, or its answer.
 #[derive(Drop)]
 enum Settled<Rt: Wait, K: Work<Rt>> {
     There(Started<Rt, K>),
@@ -81,7 +76,7 @@ impl<Rt: Wait, K: Work<Rt>, F: FnOnce() -> WorkResult> Begun<Rt, K, F> {
 }
 
 impl<Rt: Wait, K: Work<Rt>> Settled<Rt, K> {
-    // Its answer; this may wait.
+    // May wait.
     fn answer<H: Threads>(self, rt: &H) -> WorkResult
         ensures { Answers K.may_answer self result }
     {
@@ -114,7 +109,6 @@ fn begin<'s, E, Rt: Wait, K: Work<Rt>, F: FnOnce() -> WorkResult + Send + 's>(
     }
 }
 
-// Starts a thread for each work, with the call that `make` makes of it. There must be room for them.
 fn begin_all<
     's,
     E,
@@ -143,7 +137,6 @@ fn begin_all<
     begun
 }
 
-// Runs the works without a thread, one after another. There must be room for them.
 fn settle_all<Rt: Wait, K: Work<Rt>, F: FnOnce() -> WorkResult + Drop>(
     begun: Vec<Begun<Rt, K, F>>,
     room: Vec<Settled<Rt, K>>,
@@ -161,7 +154,6 @@ fn settle_all<Rt: Wait, K: Work<Rt>, F: FnOnce() -> WorkResult + Drop>(
     settled
 }
 
-// The answers; this may wait. There must be room for them.
 fn answer_all<Rt: Wait, K: Work<Rt>, H: Threads>(
     rt: &H,
     settled: Vec<Settled<Rt, K>>,
@@ -189,7 +181,6 @@ fn room_for<T>(alloc: Global, count: usize) -> Result<Vec<T>, EngineError>
     }
 }
 
-// The lists of works: begun ones, settled ones, and their answers.
 #[derive(Drop)]
 struct WorkLists<Rt: Wait, K: Work<Rt>, F> {
     begun: Vec<Begun<Rt, K, F>>,
@@ -198,7 +189,6 @@ struct WorkLists<Rt: Wait, K: Work<Rt>, F> {
 }
 
 impl<Rt: Wait, K: Work<Rt> + Drop, F: Drop> WorkLists<Rt, K, F> {
-    // Room for this many works.
     fn for_works(alloc: Global, count: usize) -> Result<WorkLists<Rt, K, F>, EngineError>
         ensures begun { IfOk result (λ r. (r.begun.items ≡ []) × (count ≤ vec_capacity r.begun)) }
         ensures settled { IfOk result
@@ -218,7 +208,6 @@ impl<Rt: Wait, K: Work<Rt> + Drop, F: Drop> WorkLists<Rt, K, F> {
     }
 }
 
-// Runs the work in the present thread.
 fn run_one<Rt: Wait, K: Work<Rt> + Drop>(rt: &Rt, mut work: K) -> WorkResult
     requires { K.is_fresh work }
     ensures { K.may_answer work result }
@@ -226,7 +215,6 @@ fn run_one<Rt: Wait, K: Work<Rt> + Drop>(rt: &Rt, mut work: K) -> WorkResult
     work.run(rt)
 }
 
-// Runs the works, each by the call that `make` makes of it, and waits for their answers. The lists have room for them.
 fn run_in<
     's,
     E,

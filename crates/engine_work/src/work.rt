@@ -1,11 +1,10 @@
-//! The work of a thread.
 ghost use Rattle.std.specs.Prelude.{Result, ⊤};
 ghost use Rattle.engine_work.specs.declared.error.EngineError.{EngineError};
 
 use crate::error::EngineError;
 use std::sync::Wait;
 
-/// The work of a thread, from its start to its end. [`run_all`](crate::run_all) runs many at the same time.
+/// The work of a thread, from its start to its end.
 pub trait Work<Rt: Wait> {
     /// Whether it may be run. After a run this needn't hold again.
     ghost is_fresh: { Self → Type 0 };

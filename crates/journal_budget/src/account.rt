@@ -1,4 +1,3 @@
-//! A worker's account: the steps that it made, the steps lent for them, and their payload.
 ghost use Rattle.std.specs.Prelude.{◌≡◌, ◌↔◌, ◌≤◌, ◌+◌, IsTrue};
 ghost use Rattle.std.specs.Bool.{OnTrue, OnFalse};
 
@@ -12,7 +11,7 @@ use crate::turn_counts::TurnCounts;
 use std::marker::Model;
 use std::mem;
 
-/// A worker's account of its steps: what happened, the steps lent for it, and its payload.
+/// A worker's account of its steps.
 #[derive(Drop)]
 pub struct Account {
     counts: TurnCounts,
@@ -20,7 +19,6 @@ pub struct Account {
     // Since the last settlement: the steps, and their cost.
     steps: u64,
     cost: u64,
-    // Since the last report, and what all workers had reported then.
     bytes: PayloadCounts,
     reported: Reported,
 }
@@ -47,7 +45,7 @@ impl Account {
     ghost use Rattle.journal_budget.specs.Counts.{no_counts};
     ghost use Rattle.journal_budget.specs.Payload.{average_of, HasRoomForCommand, HasRoomForReply};
 
-    /// An account of no steps, to which nothing is lent.
+    /// Nothing is lent.
     pub fn new() -> Account
         ensures { result ≡ no_account }
     {
@@ -61,7 +59,7 @@ impl Account {
         }
     }
 
-    /// What happened since the counts were last taken.
+    /// What happened since `take_counts`.
     #[inline(always)]
     pub fn counts(&self) -> &TurnCounts
         ensures { result.now ≡ self.now.counts }
@@ -69,7 +67,7 @@ impl Account {
         &self.counts
     }
 
-    /// Takes the counts: nothing is counted yet from here on.
+    /// Takes the counts, which begin anew.
     pub fn take_counts(&mut self) -> TurnCounts
         ensures counts { result ≡ self.old.counts }
         ensures account { self.new ≡ record self.old { counts = no_counts } }
@@ -77,7 +75,7 @@ impl Account {
         mem::replace(&mut self.counts, TurnCounts::NONE)
     }
 
-    /// Counts a step of this kind, with its payload bytes. Its cost is spent of the loan.
+    /// Counts a step with its payload bytes. Its cost is spent of the loan.
     #[inline(always)]
     pub fn note(&mut self, kind: StepKind, bytes: PayloadCounts)
         ensures { self.new ≡ stepped_with kind bytes self.old }
@@ -97,7 +95,7 @@ impl Account {
         self.loan.free()
     }
 
-    /// Borrows steps of the journal. `false`: that many aren't left, and nothing changes.
+    /// Borrows steps. `false`: that many aren't left, and nothing changes.
     pub fn borrow_steps(&mut self, ledger: &mut Ledger, steps: u64) -> bool
         ensures fits { IsTrue result
             ↔ (ledger.old.budget.spent + ledger.old.budget.lent + steps ≤ MAX_STEPS) }
@@ -114,8 +112,7 @@ impl Account {
         is_lent
     }
 
-    /// Reports its steps and payload, returns unspent steps, and reads what all workers have reported, while this many
-    /// connections are open.
+    /// Reports steps and payload, and returns unspent steps, while this many connections are open.
     pub fn settle(&mut self, ledger: &mut Ledger, connections: u64)
         ensures account { self.new ≡ settled_with ledger.new connections self.old }
         ensures ledger { ledger.new ≡ with_account self.old ledger.old }
@@ -129,7 +126,7 @@ impl Account {
         self.report(ledger, ledger.owed().saturating_sub(ends));
     }
 
-    /// Reports its payload, and reads what all workers have reported.
+    /// Reports payload, and reads what all workers have reported.
     pub fn report_payload(&mut self, ledger: &mut Ledger)
         ensures account { self.new ≡ reported_to ledger.new self.old.reported.owed self.old }
         ensures ledger { ledger.new ≡ with_payload self.old ledger.old }
@@ -138,7 +135,6 @@ impl Account {
         self.report(ledger, owed);
     }
 
-    // The same, while so many owed steps have payload.
     fn report(&mut self, ledger: &mut Ledger, owed: u64)
         ensures account { self.new ≡ reported_to ledger.new owed self.old }
         ensures ledger { ledger.new ≡ with_payload self.old ledger.old }
@@ -162,7 +158,7 @@ impl Account {
         self.bytes.kept
     }
 
-    /// Whether the journal has room for the payload of a further command, of a client with this many unfinished bytes.
+    /// Whether there is room for a further command's payload. The client has this many unfinished bytes.
     #[inline(always)]
     pub fn has_room_for_command(&self, unfinished: u64) -> bool
         ensures { IsTrue result
@@ -171,7 +167,7 @@ impl Account {
         self.is_far_from_full(unfinished) || self.known().takes_in(self.owed(), unfinished)
     }
 
-    /// Whether the journal has room for a host's reply of which this many bytes have come.
+    /// Whether there is room for a reply of which this many bytes have come.
     #[inline(always)]
     pub fn has_room_for_reply(&self, unfinished: u64) -> bool
         ensures { IsTrue result ↔ HasRoomForReply (known self.now) unfinished }
@@ -179,7 +175,7 @@ impl Account {
         self.is_far_from_full(unfinished) || self.known().takes_reply(unfinished)
     }
 
-    // Whether room needn't be computed: the journal was far from full, and little has come since.
+    // The journal was far from full, and little has come since.
     #[inline(always)]
     #[tactic(auto, using(crate::proofs::FarLemmas::far_for_command, crate::proofs::FarLemmas::far_for_reply))]
     fn is_far_from_full(&self, unfinished: u64) -> bool
@@ -191,7 +187,6 @@ impl Account {
         bytes <= FAR_BYTES && self.cost <= FAR_STEPS && self.reported.is_far()
     }
 
-    // The payload known now.
     fn known(&self) -> Payload
         ensures { result ≡ known self.now }
     {
@@ -200,7 +195,6 @@ impl Account {
         known
     }
 
-    // The owed steps that have payload.
     fn owed(&self) -> u64
         ensures { result ≡ owed_steps self.now }
     {

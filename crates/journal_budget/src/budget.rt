@@ -5,10 +5,8 @@ ghost use Rattle.std.specs.Bool.{OnTrue, OnFalse};
 use crate::step_kind::StepKind;
 use std::marker::Model;
 
-// The most steps of a journal.
 const JOURNAL_STEPS: u64 = limits::MAX_STEPS as u64;
 
-/// The steps lent to a worker by its generation's budget, and those it spent.
 #[derive(Drop)]
 pub(crate) struct Loan {
     lent: u64,
@@ -27,7 +25,6 @@ impl Model for Loan {
 impl Loan {
     ghost use Rattle.journal_budget.specs.Budget.{no_loan, free_steps, borrowed, loan_after};
 
-    /// Nothing is lent and nothing spent.
     pub(crate) fn new() -> Loan
         ensures { result ≡ no_loan }
     {
@@ -38,7 +35,7 @@ impl Loan {
         }
     }
 
-    /// The steps that may still be spent: those lent and those set free, less those spent; 0 where more was spent.
+    /// 0 where more was spent.
     #[inline(always)]
     pub(crate) fn free(&self) -> u64
         ensures { result ≡ free_steps self.now }
@@ -48,15 +45,12 @@ impl Loan {
             .saturating_sub(self.spent)
     }
 
-    /// Adds lent steps; to be called once `Budget::lend` has lent them.
     pub(crate) fn borrow(&mut self, steps: u64)
         ensures { self.new ≡ borrowed steps self.old }
     {
         self.lent = self.lent.saturating_add(steps);
     }
 
-    /// Records a step: its cost is spent, and the steps that it sets free may be spent again.
-    ///
     /// Spending goes on past what is free; steps set free later make up for that first.
     #[inline(always)]
     pub(crate) fn note(&mut self, kind: StepKind)
@@ -67,9 +61,6 @@ impl Loan {
     }
 }
 
-/// The steps of one journal: those spent for good, and those lent to workers.
-///
-/// Their sum is at most `limits::MAX_STEPS`.
 #[derive(Drop)]
 pub(crate) struct Budget {
     spent: u64,
@@ -91,14 +82,12 @@ impl Model for Budget {
 impl Budget {
     ghost use Rattle.journal_budget.specs.Budget.{no_loan, no_budget, lent_more, settled};
 
-    /// Nothing is spent and nothing lent.
     pub(crate) fn new() -> Budget
         ensures { result ≡ no_budget }
     {
         Budget { spent: 0, lent: 0 }
     }
 
-    /// The steps spent for good.
     pub(crate) fn spent(&self) -> u64
         ensures spent { result ≡ self.now.spent }
         ensures fits { self.now.spent + self.now.lent ≤ JOURNAL_STEPS }
@@ -106,7 +95,7 @@ impl Budget {
         self.spent
     }
 
-    /// Lends this many steps if they fit beside those spent and lent. Otherwise nothing changes, and the result is `false`.
+    /// False: they don't fit beside those spent and lent, and nothing changes.
     pub(crate) fn lend(&mut self, steps: u64) -> bool
         ensures fits { IsTrue result ↔ (self.old.spent + self.old.lent + steps ≤ JOURNAL_STEPS) }
         ensures lent { OnTrue result (self.new ≡ lent_more steps self.old) }
@@ -119,10 +108,7 @@ impl Budget {
         true
     }
 
-    /// Settles a worker's loan: its spent steps, less those it set free, are spent for good, and its lent steps are
-    /// returned. If it set free more than it spent, that much less is spent for good. The loan is empty afterwards.
-    ///
-    /// A loan of another budget spends no more than fits, and returns no more than is lent.
+    /// Spent steps, less those set free, are spent for good. Lent ones are returned, and the loan is empty.
     pub(crate) fn settle(&mut self, loan: &mut Loan)
         ensures settled { self.new ≡ settled JOURNAL_STEPS loan.old self.old }
         ensures empty { loan.new ≡ no_loan }

@@ -1,11 +1,9 @@
-//! What follows from the contracts.
 ghost use Rattle.journal_budget.specs.BudgetLaws.{CommandFits, OwedFits, OwedIsPaid, PaysAtFirst, PaysOnceLent, PaysOnceNoted, PaysOnceSettled};
 
 /// A command of at most 1,023 parts costs at most `MAX_COMMAND_STEPS` steps.
 ///
 /// The steps made and those still owed are together the cost of all steps, less the steps set free. So all owed steps
-/// fit the journal if no worker makes a step that costs more than it has free. This holds for a new budget and new
-/// loans, and stays true over each borrowing, step and settlement.
+/// fit the journal if no worker makes a step that costs more than it has free.
 pub fn owed_steps_fit()
     ensures command { CommandFits }
     ensures paid { OwedIsPaid }

@@ -1,4 +1,3 @@
-//! The spent and lent steps of a generation's journal, and its payload.
 ghost use Rattle.std.specs.Prelude.{◌≡◌, ◌↔◌, ◌≤◌, ◌+◌, ◌-◌, IsTrue};
 
 use crate::budget::Budget;
@@ -12,7 +11,6 @@ pub struct Ledger {
     pub(crate) payload: Payload,
     // Bytes of large replies that are coming.
     coming: u64,
-    // Steps that were made.
     steps: u64,
 }
 
@@ -46,15 +44,14 @@ impl Ledger {
         }
     }
 
-    /// Adds steps that a worker has made.
     pub(crate) fn note_steps(&mut self, steps: u64)
         ensures { self.new ≡ with_steps steps self.old }
     {
         self.steps = self.steps.saturating_add(steps);
     }
 
-    /// Whether the journal has room for a host's reply beside all others that are coming. `came` of its bytes have
-    /// come; `before` had come at the last report.
+    /// Whether there is room for a reply beside all others that are coming. `came` of its bytes have come, `before`
+    /// at the last report.
     pub fn takes_reply(&mut self, came: u64, before: u64) -> bool
         ensures coming { self.new ≡ with_coming came before self.old }
         ensures room { IsTrue result ↔ HasRoomForReply self.old.payload self.new.coming }
@@ -78,7 +75,6 @@ impl Ledger {
         self.payload.next_average()
     }
 
-    /// The steps still owed.
     pub(crate) fn owed(&self) -> u64
         ensures { result ≡ self.now.budget.spent - self.now.steps }
     {

@@ -1,9 +1,7 @@
-//! How much room the journal of a generation has: what a step costs, which steps are lent to a worker, and how many bytes
-//! of payload are expected.
+//! How much room the journal of a generation has, in steps and in bytes.
 //!
-//! Each worker has an [`Account`] of its steps and payload, and borrows steps. It reports to the journal's [`Ledger`] now
-//! and then, and reads what all workers have reported. No threads, events or sockets. It stands on `limits`. Begin with
-//! `account.rt`; `budget.rt` counts steps, `payload.rt` bytes. Which steps were made is the caller's to say.
+//! Each worker has an [`Account`], and reports to the journal's [`Ledger`] now and then. Which steps were made is the
+//! caller's to say. It stands on `limits`. Begin with `account.rt`.
 #![tactic(auto)]
 
 mod account;

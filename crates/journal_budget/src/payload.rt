@@ -1,4 +1,3 @@
-//! The payload of one journal: the commands and replies that it has room for.
 ghost use Rattle.std.specs.Prelude.{◌≡◌, ◌↔◌, ◌≤◌, ◌+◌, ◌-◌, ◌*◌, IsTrue};
 
 use limits::{MAX_BYTES, MAX_REPLY_BYTES};
@@ -7,10 +6,10 @@ use std::marker::Model;
 // The most bytes of one read from a host.
 const MAX_READ_BYTES: u64 = 16_384;
 
-// This many bytes of a journal are kept for the texts of errors once replies have no room.
+// Kept for the texts of errors once replies have no room.
 const MAX_ERROR_BYTES: u64 = 4_194_304;
 
-/// A journal that is far from full may get this many bytes of payload before its room is looked at again.
+/// A journal far from full may get this many bytes before its room is looked at again.
 pub(crate) const FAR_BYTES: u64 = 1_048_576;
 
 /// And it may owe this many more steps.
@@ -19,7 +18,6 @@ pub(crate) const FAR_STEPS: u64 = 16_384;
 // An average is the journal's own from this many steps on.
 const FIRST_STEPS: u64 = 1_024;
 
-/// The bytes of payload of one journal, as its workers have reported.
 #[derive(Clone, Copy)]
 pub(crate) struct Payload {
     used: u64,
@@ -55,7 +53,7 @@ impl Payload {
     ghost use Rattle.journal_budget.specs.Budget.{capped};
     ghost use Rattle.journal_budget.specs.Payload.{no_payload, average_of, kept_bytes, next_average_of, HasRoomForCommand, HasRoomForReply, IsFarFromFull};
 
-    /// Nothing was reported. `average` is the payload bytes a step of the last generation at its end, 0 for the first one.
+    /// `average` is the last generation's payload bytes a step at its end, 0 for the first one.
     pub(crate) fn new(average: u64) -> Payload
         ensures { result ≡ no_payload average }
     {
@@ -68,9 +66,8 @@ impl Payload {
         }
     }
 
-    /// Adds a worker's report since its last one: payload bytes in the journal, bytes of replies that came, with those
-    /// of the proxy itself, bytes handed out to clients, and the steps of the average. Each sum stays at the greatest
-    /// `u64` where it would pass it.
+    /// `came` counts the proxy's own replies too, and `steps` those of the average. Each sum stays at the greatest
+    /// `u64`.
     pub(crate) fn note(&mut self, used: u64, came: u64, handed: u64, steps: u64)
         ensures used { self.new.used ≡ capped (self.old.used + used) }
         ensures came { self.new.came ≡ capped (self.old.came + came) }
@@ -84,8 +81,7 @@ impl Payload {
         self.steps = self.steps.saturating_add(steps);
     }
 
-    /// The payload bytes a step, rounded down. From 1,024 steps on it is the journal's own average. Below, it is the
-    /// greater of that and the last generation's, or the last generation's where there are no steps.
+    /// The payload bytes a step, rounded down. Below 1,024 steps it is no less than the last generation's.
     pub(crate) fn average(&self) -> u64
         ensures { result ≡ average_of self.now }
     {
@@ -97,8 +93,7 @@ impl Payload {
         }
     }
 
-    /// The average that the next generation starts with: this journal's own, and at least half of what it started with.
-    /// So large values are remembered for some generations, and then forgotten.
+    /// At least half of what this journal started with, so that large values are remembered for some generations.
     pub(crate) fn next_average(&self) -> u64
         ensures { result ≡ next_average_of self.now }
     {
@@ -106,10 +101,7 @@ impl Payload {
         own.max(self.before / 2)
     }
 
-    /// Whether the journal has room for a further command of a client with this many unfinished bytes, while this many
-    /// steps are owed.
-    ///
-    /// It has if nothing is owed and it has no payload, so that there is always progress.
+    /// There is room if nothing is owed and there is no payload, so that there is always progress.
     pub(crate) fn takes_in(&self, owed: u64, unfinished: u64) -> bool
         ensures { IsTrue result ↔ HasRoomForCommand self.now owed unfinished }
     {
@@ -125,8 +117,6 @@ impl Payload {
             <= MAX_BYTES
     }
 
-    /// Whether the journal has room for hosts' replies of which this many bytes have come. It needs room for these and
-    /// one more read, for handing them out, and for the texts of errors.
     pub(crate) fn takes_reply(&self, unfinished: u64) -> bool
         ensures { IsTrue result ↔ HasRoomForReply self.now unfinished }
     {
@@ -137,9 +127,8 @@ impl Payload {
             <= MAX_BYTES
     }
 
-    /// Whether the journal, while this many steps are owed, is so far from full that room needn't be checked for each
-    /// command and reply. Even with `FAR_BYTES` more bytes and `FAR_STEPS` more owed steps, it then has room for one
-    /// with `FAR_BYTES` unfinished bytes.
+    /// Even with `FAR_BYTES` more bytes and `FAR_STEPS` more owed steps, there is then room for one with `FAR_BYTES`
+    /// unfinished bytes.
     pub(crate) fn is_far_from_full(&self, owed: u64) -> bool
         ensures { IsTrue result → IsFarFromFull self.now owed }
     {
@@ -150,7 +139,7 @@ impl Payload {
         self.steps >= FIRST_STEPS && grown.takes_in(owed.saturating_add(FAR_STEPS), FAR_BYTES)
     }
 
-    // The payload bytes in the journal, and those of replies that are still to be handed out.
+    // With those of replies that are still to be handed out.
     fn kept(&self) -> u64
         ensures { result ≡ capped (kept_bytes self.now) }
     {

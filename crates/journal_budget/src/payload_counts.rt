@@ -1,10 +1,9 @@
-//! The payload bytes of steps.
 ghost use Rattle.std.specs.Prelude.{◌≡◌};
 ghost use Rattle.journal_budget.specs.Counts.{no_bytes, reply_bytes, plus, with_bytes};
 
 use crate::payload::Payload;
 
-// The steps of a command of one part. Payload is averaged over replies, so that failed parts don't lower the average.
+// Payload is averaged over replies, so that failed parts don't lower the average.
 const STEPS_A_REPLY: u64 = 4;
 
 /// Payload bytes of some steps.
@@ -12,16 +11,16 @@ const STEPS_A_REPLY: u64 = 4;
 pub struct PayloadCounts {
     /// Bytes kept in all.
     pub kept: u64,
-    /// Bytes of replies that came and of answers of the proxy's own.
+    /// Bytes of replies that came, and of the proxy's own answers.
     pub came: u64,
     /// Bytes handed out to clients.
     pub handed: u64,
-    /// The number of steps that the average is taken over.
+    /// Steps that the average is taken over.
     pub steps: u64,
 }
 
 impl PayloadCounts {
-    /// Those of a step that has no payload.
+    /// Those of a step without payload.
     pub const NONE: PayloadCounts = PayloadCounts {
         kept: 0,
         came: 0,
@@ -29,7 +28,7 @@ impl PayloadCounts {
         steps: 0,
     };
 
-    /// Those of a command with `kept` bytes, to which the proxy's own answer has `came`.
+    /// Those of a command: `kept` bytes, and `came` of the proxy's own answer.
     #[inline(always)]
     pub fn of_command(kept: u64, came: u64) -> PayloadCounts
         ensures { result ≡ record no_bytes { kept = kept; came = came } }
@@ -41,7 +40,7 @@ impl PayloadCounts {
         }
     }
 
-    /// Those of a part's text with this many bytes.
+    /// Those of a part's text.
     #[inline(always)]
     pub fn of_part(kept: u64) -> PayloadCounts
         ensures { result ≡ record no_bytes { kept = kept } }
@@ -52,7 +51,7 @@ impl PayloadCounts {
         }
     }
 
-    /// Those of a host's reply with this many bytes.
+    /// Those of a host's reply.
     #[inline(always)]
     pub fn of_reply(came: u64) -> PayloadCounts
         ensures { result ≡ reply_bytes came }
@@ -65,7 +64,7 @@ impl PayloadCounts {
         }
     }
 
-    /// Those of a text with this many bytes that is handed out.
+    /// Those of a text that is handed out.
     #[inline(always)]
     pub fn of_text(handed: u64) -> PayloadCounts
         ensures { result ≡ record no_bytes { kept = handed; handed = handed } }
@@ -77,7 +76,6 @@ impl PayloadCounts {
         }
     }
 
-    /// Adds these.
     #[inline(always)]
     pub(crate) fn add(&mut self, other: PayloadCounts)
         ensures { self.new ≡ plus self.old other }
@@ -88,7 +86,6 @@ impl PayloadCounts {
         self.steps = self.steps.saturating_add(other.steps);
     }
 
-    /// Adds them to the payload.
     #[inline(always)]
     pub(crate) fn add_to(&self, payload: &mut Payload)
         ensures { payload.new ≡ with_bytes self.now payload.old }

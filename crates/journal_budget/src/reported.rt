@@ -1,4 +1,3 @@
-//! What the workers of a generation have reported of their payload.
 ghost use Rattle.std.specs.Prelude.{◌≡◌, IsTrue};
 ghost use Rattle.journal_budget.specs.Payload.{average_of, IsFarFromFull};
 ghost use Rattle.journal_budget.specs.Reported.{IsInRange};
@@ -12,7 +11,6 @@ pub(crate) struct Reported {
     payload: Payload,
     // The owed steps that have payload.
     owed: u64,
-    // The average bytes a step, and whether the journal was far from full.
     average: u64,
     is_far: bool,
 }
@@ -28,7 +26,6 @@ impl Model for Reported {
 }
 
 impl Reported {
-    /// This payload, while so many steps are owed that have some.
     pub(crate) fn new(payload: Payload, owed: u64) -> Reported
         requires { IsInRange payload }
         ensures { result ≡ record { payload = payload; owed = owed } }
@@ -43,7 +40,6 @@ impl Reported {
         }
     }
 
-    /// The payload.
     #[inline(always)]
     pub(crate) fn payload(&self) -> Payload
         ensures { result ≡ self.now.payload }
@@ -51,7 +47,6 @@ impl Reported {
         self.payload
     }
 
-    /// The owed steps that have payload.
     #[inline(always)]
     pub(crate) fn owed(&self) -> u64
         ensures { result ≡ self.now.owed }
@@ -59,7 +54,6 @@ impl Reported {
         self.owed
     }
 
-    /// The average payload bytes a step.
     #[inline(always)]
     pub(crate) fn average(&self) -> u64
         ensures { result ≡ average_of self.now.payload }

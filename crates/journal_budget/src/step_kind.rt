@@ -1,4 +1,3 @@
-//! The kinds of a journal's steps, and their costs.
 ghost use Rattle.std.specs.Prelude.{◌≡◌};
 
 /// The kind of a step.
@@ -8,16 +7,16 @@ pub enum StepKind {
     Opened,
     /// A command was accepted.
     Accepted {
-        /// The number of its parts that wait for hosts.
+        /// Its parts that wait for hosts.
         parts: u64,
     },
     /// A part was sent to its host.
     Sent,
     /// A host's answer was matched to its part.
     Matched,
-    /// A host's link was lost, with the replies that its parts waited for.
+    /// A host's link was lost.
     Lost {
-        /// The number of these parts.
+        /// The parts that waited for its replies.
         parts: u64,
     },
     /// A reply was handed out to its client.
@@ -49,7 +48,7 @@ impl StepKind {
         }
     }
 
-    /// The steps that it sets free: owed ones that it replaces, beside itself.
+    /// The owed steps that it replaces, beside itself.
     #[inline(always)]
     pub fn freed(self) -> u64
         ensures { result ≡ freed_of self }

@@ -1,4 +1,3 @@
-//! What happened in turns, counted.
 ghost use Rattle.std.specs.Prelude.{◌≡◌};
 ghost use Rattle.journal_budget.specs.Counts.{counted};
 
@@ -29,7 +28,6 @@ impl TurnCounts {
         faults: 0,
     };
 
-    /// Counts a step of this kind.
     #[inline(always)]
     pub(crate) fn note(&mut self, kind: StepKind)
         ensures { self.new ≡ counted kind self.old }

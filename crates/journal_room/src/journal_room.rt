@@ -1,4 +1,3 @@
-//! The room in a generation's journal, shared by its workers.
 ghost use Rattle.std.specs.Prelude.{◌≡◌, ◌↔◌, ◌≤◌, ◌<◌, ◌+◌, ◌⊎◌, max, IsTrue};
 ghost use Rattle.std.specs.Bool.{OnTrue, OnFalse};
 ghost use Rattle.limits.specs.declared.journals.TheConstants.{MAX_COMMAND_STEPS};
@@ -16,30 +15,26 @@ use std::mem;
 use std::sync::atomic::{AtomicBool, AtomicU64, Ordering};
 use std::sync::{Mutex, Wait};
 
-// Payload of this many bytes is reported to the other workers before room is decided.
+// Payload of this many bytes is reported before room is decided.
 const LARGE: u64 = 65_536;
 
-// From this average of payload bytes a step on, each accepted command is reported at once.
+// From this average of bytes a step on, each accepted command is reported at once.
 const LARGE_STEP: u64 = 8_192;
 
-// At most this many steps of a journal are lent to all workers together; each worker is lent at least a command's.
+// At most this many steps are lent to all workers together, but to each at least a command's.
 const MAX_LENT: u64 = 65_536;
 
-/// What the workers of a generation share of its journal. What each round of a worker writes has cache lines of its own, so that no
-/// other read waits for it.
+/// What the workers of a generation share. What each round writes has cache lines of its own, so that no other read
+/// waits for it.
 pub struct JournalRoom {
     workers: u64,
-    // The number of open connections.
     open: AtomicU64,
-    // The journal's spent and lent steps.
     ledger: CachePadded<Mutex<Ledger>>,
-    // Whether no further commands are accepted, so that accepted ones can be answered before the journal is full.
+    // No further commands are accepted, so that accepted ones can be answered before the journal is full.
     is_full: AtomicBool,
-    // The bytes of all unfinished commands.
     unfinished: CachePadded<AtomicU64>,
 }
 
-// Written out so that a drop is one call: each function that holds one is proved sooner.
 impl Drop for JournalRoom {
     fn drop(self) {
         let JournalRoom {
@@ -53,7 +48,7 @@ impl Drop for JournalRoom {
 }
 
 impl JournalRoom {
-    /// The room in an empty journal, for this many workers. `average` is the last generation's payload bytes a step.
+    /// The room in an empty journal. `average` is the last generation's payload bytes a step.
     pub fn new(workers: u64, average: u64) -> JournalRoom {
         JournalRoom {
             workers,
@@ -64,9 +59,7 @@ impl JournalRoom {
         }
     }
 
-    /// Reports what the worker's turns did, takes back its unspent steps, and lends it this reserve again.
-    ///
-    /// The turns leave the gate, if they are inside.
+    /// Reports the worker's turns, takes back unspent steps, and lends this reserve again. The turns leave the gate.
     pub fn settle<R: Wait, T: HeldTurns>(&self, rt: &R, turns: &mut MeteredTurns<T>, reserve: u64)
         ensures turns { turns.new.turns ≡ turns.old.turns }
         ensures counts { turns.new.account.counts ≡ turns.old.account.counts }
@@ -83,9 +76,7 @@ impl JournalRoom {
         turns.account.borrow_steps(ledger, reserve);
     }
 
-    /// Lends this many steps. False: that many aren't left.
-    ///
-    /// The turns leave the gate, if they are inside.
+    /// Lends this many steps. False: too few are left. The turns leave the gate.
     pub fn lend_steps<R: Wait, T: HeldTurns>(
         &self,
         rt: &R,
@@ -101,9 +92,8 @@ impl JournalRoom {
         turns.account.borrow_steps(&mut self.ledger.lock(rt), steps)
     }
 
-    /// Lends the worker steps until it has enough for any command beside the reserve. False: that many aren't left.
-    ///
-    /// The turns leave the gate where the worker has too few.
+    /// Lends steps until the worker has enough for any command beside the reserve. False: too few are left. The turns
+    /// leave the gate where the worker has too few.
     pub fn lend<R: Wait, T: HeldTurns>(
         &self,
         rt: &R,
@@ -130,10 +120,8 @@ impl JournalRoom {
         is_lent && turns.free_steps() >= least
     }
 
-    /// Whether there is room for a further command with all steps that it will owe, beside the reserve. `unfinished`
-    /// bytes of the client's commands have come and aren't accepted.
-    ///
-    /// Large payload is reported first. The turns leave the gate where they report or have steps lent.
+    /// Whether there is room for a further command, beside the reserve. `unfinished` bytes of the client's commands
+    /// aren't accepted yet. The turns leave the gate where large payload is reported or steps are lent.
     pub fn takes_command<R: Wait, T: HeldTurns>(
         &self,
         rt: &R,
@@ -156,10 +144,8 @@ impl JournalRoom {
         self.lend(rt, turns, reserve) && turns.account.has_room_for_command(unfinished)
     }
 
-    /// Whether there is room for a host's reply of which `came` bytes have come. `reported` are those that the other
-    /// workers know of, and stay so.
-    ///
-    /// A large reply is reported first, and has to fit beside all others that are coming. The turns leave the gate then.
+    /// Whether there is room for a reply of which `came` bytes have come, and the other workers know of `reported`. A
+    /// large one is reported first, and has to fit beside all others that are coming. The turns leave the gate then.
     pub fn takes_reply<R: Wait, T: HeldTurns>(
         &self,
         rt: &R,
@@ -213,7 +199,7 @@ impl JournalRoom {
         self.open.fetch_add(1, Ordering::SeqCst);
     }
 
-    /// Takes one back: it got no connection, or has none here any more.
+    /// Takes one back: it has no connection here.
     pub fn count_gone(&self) {
         self.open.fetch_sub(1, Ordering::SeqCst);
     }

@@ -1,9 +1,8 @@
-//! Room in the journal of a generation, shared by its workers: what the turns of each used of it, and what all may still use.
+//! Room in the journal of a generation, shared by its workers.
 //!
-//! A worker's [`MeteredTurns`] count its steps and payload without a lock, and have steps lent. They report to the
-//! generation's [`JournalRoom`] now and then, and read what all workers have reported. It stands on `journal_budget`,
-//! which reckons steps and payload. That the reports of all workers are together the journal's isn't proved. Begin with
-//! `journal_room.rt`; what a turn counts as stands in `turn_step.rt`.
+//! A worker's [`MeteredTurns`] count its steps and payload without a lock, and report to the [`JournalRoom`] now and
+//! then. It stands on `journal_budget`. That all reports together are the journal's isn't proved. Begin with
+//! `journal_room.rt`.
 //!
 //! ```text
 //! MAX_STEPS and MAX_BYTES of a journal

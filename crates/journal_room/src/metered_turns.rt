@@ -1,4 +1,3 @@
-//! A worker's turns, metered.
 ghost use Rattle.std.specs.Prelude.{◌≡◌, IfOk, IfErr};
 ghost use Rattle.ticket_gate.specs.Journal.{AddsTurn};
 ghost use Rattle.ticket_gate.specs.Turns.{RefusesTurn};
@@ -15,11 +14,11 @@ use ticket_gate::{Seated, TurnRefusal, Turns};
 
 /// Turns that may stay inside a gate in between.
 pub trait HeldTurns: CoreTurns {
-    /// From here on a turn leaves the pass inside, where the next one needn't enter. Others wait meanwhile.
+    /// A turn leaves the pass inside from here on. Others wait meanwhile.
     fn hold(&mut self)
         ensures { self.new ≡ self.old };
 
-    /// Leaves the gate, if the pass is inside. From here on each turn leaves it too.
+    /// Leaves the gate, now and after each later turn.
     fn leave(&mut self)
         ensures { self.new ≡ self.old };
 }
@@ -42,7 +41,7 @@ pub struct MeteredTurns<T: CoreTurns> {
 }
 
 impl<T: CoreTurns> MeteredTurns<T> {
-    /// These turns, of which nothing is counted yet.
+    /// These turns, with nothing counted.
     pub fn new(turns: T) -> MeteredTurns<T>
         ensures turns { result.turns ≡ turns }
         ensures account { result.account ≡ no_account }
@@ -61,7 +60,7 @@ impl<T: CoreTurns> MeteredTurns<T> {
         self.account.counts()
     }
 
-    /// Leaves the gate, if the pass is inside, and takes the counts: nothing is counted yet from here on.
+    /// Leaves the gate, and takes the counts, which begin anew.
     pub fn leave_with_counts(&mut self) -> TurnCounts
     where
         T: HeldTurns,
@@ -74,7 +73,7 @@ impl<T: CoreTurns> MeteredTurns<T> {
         self.account.take_counts()
     }
 
-    /// Leaves the gate, if the pass is inside, before something that may take long.
+    /// Leaves the gate, before something that may take long.
     pub fn leave(&mut self)
     where
         T: HeldTurns,
@@ -94,7 +93,7 @@ impl<T: CoreTurns> MeteredTurns<T> {
         }
     }
 
-    /// From here on a turn leaves the pass inside the gate.
+    /// As [`HeldTurns::hold`].
     pub fn hold(&mut self)
     where
         T: HeldTurns,

@@ -1,4 +1,3 @@
-//! The step that a turn is, and its payload.
 ghost use Rattle.std.specs.Prelude.{◌≡◌};
 ghost use Rattle.journal_room.specs.TurnStep.{brought_by, own_bytes, noted};
 
@@ -10,7 +9,7 @@ const MAX_OWN_WORD: u64 = 8;
 
 const MAX_OWN_ERROR: u64 = 96;
 
-// The most bytes of the proxy's own answer to a command of this many bytes; none of an answer that isn't its own.
+// The most bytes of the proxy's own answer to a command; 0 for any other answer.
 fn own_bytes(local: &Option<Local>, command: u64) -> u64
     ensures { result ≡ own_bytes local.now command }
 {
@@ -24,7 +23,6 @@ fn own_bytes(local: &Option<Local>, command: u64) -> u64
     }
 }
 
-/// The payload bytes of an event.
 #[inline(always)]
 pub(crate) fn bytes_of(event: &Event) -> u64
     ensures { result ≡ brought_by event.now }
@@ -36,8 +34,7 @@ pub(crate) fn bytes_of(event: &Event) -> u64
     }
 }
 
-/// Counts a turn with this answer, whose event had this many payload bytes. A part that failed at once is neither sent
-/// nor answered.
+/// A part that failed at once is neither sent nor answered.
 #[inline(always)]
 pub(crate) fn note_turn(account: &mut Account, brought: u64, answer: &Answer)
     ensures { account.new ≡ noted brought answer.now account.old }

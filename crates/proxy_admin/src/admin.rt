@@ -1,5 +1,3 @@
-//! The operator's address, before its thread runs.
-
 use crate::operated::Operated;
 use crate::visits::{LISTENER, Visits};
 use mio::net::TcpListener;
@@ -12,7 +10,7 @@ use std::net::Net;
 use std::rt::Clock;
 use std::sync::Wait;
 
-/// The operator's listener, and what its pages say of the program.
+/// The operator's listener, and what its pages say.
 #[derive(Drop)]
 pub struct Admin {
     /// The listener.
@@ -41,7 +39,6 @@ pub struct AdminListener {
     poll: Poll,
 }
 
-// Written out so that a drop is one call: each function that holds one is proved sooner.
 impl Drop for AdminListener {
     fn drop(self) {
         let AdminListener {
@@ -53,7 +50,7 @@ impl Drop for AdminListener {
 }
 
 impl AdminListener {
-    /// Makes a poll, and registers the listener with it. Fails with `NoPoll` or `NotPolled` where the system refuses.
+    /// Makes a poll for the listener. Fails with `NoPoll` or `NotPolled` where the system refuses.
     pub fn open<R: Net>(
         rt: &R,
         alloc: Global,

@@ -1,8 +1,7 @@
 //! The operator's address of a running server: HTTP pages about it, and orders to end it.
 //!
-//! An [`AdminListener`] has a thread of its own. What it shows is an [`Operated`] server's, which also carries out the
-//! orders. `proxy_pages` decides each answer; here sockets and time are brought to it. It is proved safe and no more.
-//! It stands on `proxy_pages` and the HTTP crates. Begin with `visits.rt`.
+//! An [`AdminListener`] has a thread of its own, and shows an [`Operated`] server. `proxy_pages` decides each answer.
+//! It is proved safe and no more. It stands on `proxy_pages` and the HTTP crates. Begin with `visits.rt`.
 #![tactic(auto)]
 
 mod admin;

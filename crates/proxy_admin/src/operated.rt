@@ -1,5 +1,3 @@
-//! The server that the operator sees.
-
 use proxy_pages::{Order, Snapshot};
 use std::io::Error;
 use std::rt::Clock;

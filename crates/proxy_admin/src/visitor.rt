@@ -1,5 +1,3 @@
-//! A visitor's connection.
-
 use http_server::{Config as Limits, Connection};
 use limits::{MAX_BODY, MAX_HEAD, VISIT_MS};
 use mio::net::TcpStream;
@@ -9,13 +7,11 @@ use std::hash::RandomState;
 use std::io;
 use std::io::ErrorKind;
 
-// At most this many reads and writes of one visitor are made in a round.
+// The most reads and writes of one visitor in a round.
 const MAX_MOVES: u32 = 16;
 
-// The most bytes of one read.
 const VISIT_READ_SIZE: usize = 1_024;
 
-// The limits of a visitor's requests.
 fn limits() -> Limits {
     let mut limits = Limits::default();
     limits.limits.max_head_len = MAX_HEAD;
@@ -25,32 +21,25 @@ fn limits() -> Limits {
     limits
 }
 
-// Whether the socket has to be tried again later: it isn't ready, or a signal came.
+// The socket isn't ready, or a signal came.
 fn is_pause(error: &io::Error) -> bool {
     error.kind() == ErrorKind::WouldBlock || error.kind() == ErrorKind::Interrupted
 }
 
-// The result of a visitor's round.
 #[derive(Clone, Copy, Drop)]
 enum Moved {
-    // Nothing was read or written.
     Nothing,
-    // Some bytes were read or written.
     Something,
-    // The visit is over.
     Gone,
 }
 
-/// What a visitor's round comes to.
+/// What came of a visitor's round.
 #[derive(Clone, Copy, Drop)]
 pub(crate) struct Round {
-    /// Whether the visit is over.
     pub(crate) is_over: bool,
-    /// The order among its requests.
     pub(crate) order: Option<Order>,
 }
 
-/// A visitor's connection and its socket.
 pub(crate) struct Visitor {
     connection: Connection,
     stream: TcpStream,
@@ -58,7 +47,6 @@ pub(crate) struct Visitor {
     moved: u64,
 }
 
-// Written out so that a drop is one call: each function that holds one is proved sooner.
 impl Drop for Visitor {
     fn drop(self) {
         let Visitor {
@@ -70,7 +58,6 @@ impl Drop for Visitor {
 }
 
 impl Visitor {
-    /// The visitor of this socket, who came at this moment.
     pub(crate) fn new(alloc: Global, keys: RandomState, stream: TcpStream, moment: u64) -> Visitor {
         Visitor {
             connection: Connection::new(alloc, keys, limits()),
@@ -79,12 +66,10 @@ impl Visitor {
         }
     }
 
-    /// When bytes last moved, in milliseconds.
     pub(crate) fn moved(&self) -> u64 {
         self.moved
     }
 
-    // Reads, answers and writes until the socket has to wait.
     fn answer_requests(&mut self, answers: &mut Answers<'_>) -> Moved {
         let mut moved = Moved::Nothing;
         for _ in 0..MAX_MOVES {

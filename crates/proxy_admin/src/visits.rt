@@ -17,13 +17,11 @@ use std::time::Duration;
 /// The token of the operator's listener; a visitor's is its key in the slab.
 pub(crate) const LISTENER: Token = Token(usize::MAX);
 
-// The most events taken from the poll at once.
 const MAX_EVENTS: usize = 64;
 
 // The thread looks again after this many milliseconds at the latest.
 const PAUSE_MS: u64 = 50;
 
-/// The listener and its visitors.
 pub(crate) struct Visits {
     alloc: Global,
     admin: Admin,
@@ -31,7 +29,6 @@ pub(crate) struct Visits {
     visitors: Slab<Visitor>,
 }
 
-// Written out so that a drop is one call: each function that holds one is proved sooner.
 impl Drop for Visits {
     fn drop(self) {
         let Visits {
@@ -44,7 +41,6 @@ impl Drop for Visits {
 }
 
 impl Visits {
-    /// The listener without visitors.
     pub(crate) fn new(alloc: Global, admin: Admin, poll: Poll) -> Visits {
         Visits {
             alloc,
@@ -54,7 +50,6 @@ impl Visits {
         }
     }
 
-    /// Accepts and answers visitors until the server ends or the poll fails.
     pub(crate) fn serve<R: Wait + Clock + Eprint, S: Operated>(
         &mut self,
         rt: &R,
@@ -81,7 +76,7 @@ impl Visits {
         unreachable!()
     }
 
-    // Accepts the visitors that wait. Where too many are there, the one idle longest has to go.
+    // Where too many visitors are there, the one idle longest has to go.
     fn accept_visitors(&mut self, moment: u64) {
         for _ in 0..MAX_VISITORS {
             let Ok((stream, _)) = self.admin.listener.accept() else {
@@ -94,7 +89,6 @@ impl Visits {
         }
     }
 
-    // The visitor that has been idle longest.
     fn oldest(&self) -> Option<usize> {
         let (mut oldest, mut least) = (None, u64::MAX);
         for key in 0..self.visitors.capacity() {
@@ -108,14 +102,12 @@ impl Visits {
         oldest
     }
 
-    // Drops the visitor that has been idle longest.
     fn let_oldest_go(&mut self) {
         if let Some(key) = self.oldest() {
             drop(self.visitors.try_remove(key));
         }
     }
 
-    // Registers the next visitor's socket with the poll.
     fn register(&self, stream: &mut TcpStream) -> bool {
         let token = Token(self.visitors.vacant_key());
         let interests = Interest::READABLE | Interest::WRITABLE;
@@ -125,7 +117,7 @@ impl Visits {
             .is_ok()
     }
 
-    // Takes in a visitor. Its socket is dropped where the poll refuses it or there is no memory.
+    // The socket is dropped where the poll refuses it or there is no memory.
     fn open(&mut self, mut stream: TcpStream, moment: u64) -> Result<(), AllocError> {
         self.visitors.reserve(1)?;
         if self.register(&mut stream) {
@@ -159,7 +151,6 @@ impl Visits {
         }
     }
 
-    // Steps one visitor, and returns its order.
     fn serve_visitor(
         &mut self,
         key: usize,

@@ -1,4 +1,4 @@
-//! The command line of `redproxy`: its words, and the request that they make. It stands on `clap`; begin with `read`.
+//! The command line of `redproxy`. It stands on `clap`; begin with `read`.
 #![tactic(auto)]
 
 use clap::error::ErrorKind;
@@ -13,7 +13,6 @@ pub const VERSION: &str = "0.3.0";
 /// The kit that proved and built it.
 pub const KIT: &str = "rattle-kit-13f logic dac8208d650f15bf";
 
-// The text of `--version` behind the program's name.
 const VERSION_AND_KIT: &str = "0.3.0 (rattle-kit-13f logic dac8208d650f15bf)";
 
 /// The request of the command line.
@@ -30,9 +29,9 @@ pub enum Action {
     Serve {
         /// The settings file's path.
         config: String,
-        /// The number of closed connections after which it ends; 0 is never.
+        /// The server ends after this many closed connections; 0 is never.
         connections: u64,
-        /// The operator's address for HTTP; `None`: none.
+        /// The operator's address for HTTP.
         metrics: Option<SocketAddr>,
     },
 }
@@ -40,27 +39,27 @@ pub enum Action {
 /// Why the words make no request.
 #[derive(Drop)]
 pub enum CommandLineError {
-    /// There was no memory to read them.
+    /// Memory was refused.
     Memory,
-    /// The value of `--metrics` is no address with a port.
+    /// `--metrics` has no address with a port.
     NoAddress,
     /// The parser's text is to be printed.
     Parser(ParserText),
 }
 
-/// The parser's text: an error of the words, or the help.
+/// The parser's text: an error, or the help.
 #[derive(Drop)]
 pub struct ParserText {
     error: Error,
 }
 
 impl ParserText {
-    /// Prints the text: help on standard output, errors on standard error. Returns an error of that stream.
+    /// Prints help on standard output, errors on standard error. Returns an error of that stream.
     pub fn print<R: Print + Eprint>(&self, rt: &R) -> io::Result<()> {
         self.error.print(rt)
     }
 
-    /// Whether it is the help, and no error.
+    /// Whether it is the help.
     pub fn is_help(&self) -> bool {
         self.error.exit_code() == 0
     }
@@ -151,7 +150,7 @@ fn command<'a>(alloc: Global) -> Result<Command<'a>, AllocError> {
         .subcommand(serve(alloc)?)
 }
 
-/// Reads the words of the command line, the first of which is the program's name.
+/// Reads the words, the first of which is the program's name.
 pub fn read(alloc: Global, words: &[String]) -> Result<Action, CommandLineError> {
     let matches = command(alloc)?.try_get_matches_from(words)?;
     match matches.subcommand() {

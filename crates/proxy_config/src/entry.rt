@@ -1,4 +1,3 @@
-//! The value at a key of the settings file.
 ghost use Rattle.std.specs.Prelude.{◌≡◌, ℕ, Bool, IfOk, IfErr};
 ghost use Rattle.serde_json.specs.Find.{get};
 ghost use Rattle.serde_json.specs.View.{view};
@@ -32,7 +31,6 @@ pub(crate) fn number(
     }
 }
 
-/// The truth value at a key, or the default without the key.
 pub(crate) fn flag(file: &Value, key: &'static str, default: bool) -> Result<bool, ConfigError>
     ensures ok { IfOk result (λ b. IsFlagOr default (get key.now (view file.now)) b) }
     ensures fault { IfErr result (λ e. IsFault e key.now) }
@@ -45,7 +43,6 @@ pub(crate) fn flag(file: &Value, key: &'static str, default: bool) -> Result<boo
     }
 }
 
-/// The socket address at a key, or the default's without the key.
 pub(crate) fn address(
     file: &Value,
     key: &'static str,

@@ -1,4 +1,3 @@
-//! Why a settings file is refused.
 ghost use Rattle.std.specs.Prelude.{◌≡◌};
 ghost use Rattle.proxy_config.specs.declared.error.ConfigError.TheVariants.{Memory};
 
@@ -8,7 +7,7 @@ use thiserror::Error;
 /// Why a settings file is refused.
 #[derive(Clone, Copy, Debug, PartialEq, Eq, Error)]
 pub enum ConfigError {
-    /// Memory was refused. It takes the place of any other result.
+    /// Memory was refused.
     #[error("out of memory")]
     Memory,
     /// The bytes are no settings: `json`, `unknown key`, or the first key of the table with an

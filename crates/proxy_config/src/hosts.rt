@@ -1,4 +1,3 @@
-//! The hosts of the settings file.
 ghost use Rattle.std.specs.Prelude.{◌≡◌, ◌↔◌, ◌≤◌, Some, List, length, IsTrue, IfOk, IfErr, codes, Any, AllPairs, ◌≢◌};
 ghost use Rattle.serde_json.specs.Data.{array};
 ghost use Rattle.serde_json.specs.Find.{get};
@@ -15,7 +14,6 @@ use serde_json::Value;
 use std::alloc::Global;
 use std::net::SocketAddr;
 
-/// The hosts of a settings file.
 pub(crate) fn hosts(alloc: Global, file: &Value) -> Result<Vec<Host>, ConfigError>
     ensures ok { IfOk result (λ hosts. AreHosts (get (codes "hosts") (view file.now)) hosts.items) }
     ensures fault { IfErr result (λ e. ¬ (e ≡ ConfigError.Memory) → IsFault e (codes "hosts")) }
@@ -31,7 +29,6 @@ pub(crate) fn hosts(alloc: Global, file: &Value) -> Result<Vec<Host>, ConfigErro
     }
 }
 
-// The hosts of an array's entries.
 fn hosts_in(alloc: Global, entries: &[Value]) -> Result<Vec<Host>, ConfigError>
     ensures ok { IfOk result
         (λ hosts. AreHosts (Some (array (items_view entries.now))) hosts.items) }
@@ -54,7 +51,7 @@ fn hosts_in(alloc: Global, entries: &[Value]) -> Result<Vec<Host>, ConfigError>
     Ok(hosts)
 }
 
-// A host from one member of `hosts`. It answers `Memory` only for a member that is a host.
+// `Memory` only for a member that is a host.
 fn host(alloc: Global, entry: &Value) -> Result<Host, ConfigError>
     ensures ok { IfOk result (λ h. (view entry.now ≡ host_data h) × IsHost h) }
     ensures fault { IfErr result (λ e. ¬ (e ≡ ConfigError.Memory) → IsFault e (codes "hosts")) }

@@ -1,11 +1,9 @@
-//! The keys that the settings file may have.
 ghost use Rattle.std.specs.Prelude.{◌↔◌, IsTrue, Any, string_bytes};
 ghost use Rattle.std.specs.BTreeMap.{keys};
 ghost use Rattle.proxy_config.specs.File.{IsUnknown};
 
 use serde_json::{Map, Value};
 
-/// Whether an object has a key that isn't in the table.
 pub(crate) fn has_unknown_key(members: &Map<String, Value>) -> bool
     ensures { IsTrue result ↔ Any (λ name. IsUnknown (string_bytes name)) (keys members.now) }
 {

@@ -1,8 +1,7 @@
 //! The settings file: a JSON object with a key for each setting.
 //!
-//! [`Config::read`] returns the settings in a file's bytes, or its first error. One table
-//! (`specs/Table`), which contracts cite, has the values and the default of each key. It stands on
-//! `serde_json` and `ketama`. Begin with `config.rt`.
+//! [`Config::read`] returns the settings in a file's bytes, or its first error. It stands on `serde_json` and `ketama`.
+//! Begin with `config.rt`.
 //!
 //! ```text
 //! let config = Config::read(alloc, br#"{"hosts":["127.0.0.1:7001","127.0.0.1:7002"]}"#)?;

@@ -1,4 +1,3 @@
-//! The line that `check` prints for a settings file.
 ghost use Rattle.std.specs.Prelude.{string_bytes, IfOk, IfErr};
 ghost use Rattle.proxy_config.specs.File.{IsRefusal};
 ghost use Rattle.proxy_config.specs.Line.{IsLine};
@@ -7,11 +6,9 @@ use crate::config::Config;
 use crate::error::ConfigError;
 use std::alloc::Global;
 
-/// The line for the settings in these bytes, with its end: `ok 3 hosts 120 digests`. The digests
-/// are those of the hosts' ring, by their weights.
+/// The line that `check` prints for the settings in these bytes: `ok 3 hosts 120 digests`.
 ///
-/// Refused as `Config::read` is, and with `Memory` where memory for the ring or the line is
-/// refused.
+/// Refused as `Config::read` is, and with `Memory` where memory for the ring or the line is refused.
 pub fn check_line(alloc: Global, bytes: &[u8]) -> Result<String, ConfigError>
     ensures ok { IfOk result (λ line. IsLine bytes.now (string_bytes line)) }
     ensures refused { IfErr result (λ e. IsRefusal bytes.now e) }

@@ -1,4 +1,3 @@
-//! The weights of the settings file.
 ghost use Rattle.std.specs.Prelude.{◌≡◌, ◌≤◌, ◌⊎◌, None, Some, ℕ, List, length, replicate, IfOk, IfErr, All, codes};
 ghost use Rattle.serde_json.specs.Data.{array};
 ghost use Rattle.serde_json.specs.Find.{get};
@@ -12,7 +11,6 @@ use limits::MAX_WEIGHT;
 use serde_json::Value;
 use std::alloc::Global;
 
-/// The hosts' weights in a settings file.
 pub(crate) fn weights(alloc: Global, file: &Value, hosts: &[Host]) -> Result<Vec<u32>, ConfigError>
     ensures ok { IfOk result
         (λ weights. AreWeightsOr (length hosts.now)
@@ -34,7 +32,7 @@ pub(crate) fn weights(alloc: Global, file: &Value, hosts: &[Host]) -> Result<Vec
     }
 }
 
-// The weights of an array's entries, which must be as many as the hosts.
+// They must be as many as the hosts.
 fn weights_in(alloc: Global, entries: &[Value], hosts: usize) -> Result<Vec<u32>, ConfigError>
     ensures ok { IfOk result
         (λ weights. AreWeightsOr hosts (Some (array (items_view entries.now))) weights.items) }

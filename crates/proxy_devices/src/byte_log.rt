@@ -4,7 +4,7 @@ ghost use Rattle.std.specs.Borrow.{ftrue};
 
 use std::marker::Model;
 
-/// The bytes that a device moved, the oldest first. Contracts read them as `bytes`.
+/// The bytes that a device moved, the oldest first.
 #[derive(Drop)]
 pub struct ByteLog {
     pub ghost bytes: { List ℕ },
@@ -14,7 +14,6 @@ impl Model for ByteLog {
     ghost also_owns = { λ _. ftrue };
 }
 
-// The first `count` of these bytes.
 #[derive(Clone, Copy, Drop)]
 struct Piece<'a> {
     bytes: &'a [u8],

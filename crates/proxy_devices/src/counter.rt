@@ -1,4 +1,3 @@
-//! The counts of a device's failures and pauses.
 ghost use Rattle.std.specs.Prelude.{◌≡◌, ◌⊎◌, ◌↔◌};
 ghost use Rattle.proxy_devices.specs.Device.{CountsError, HasFailed, WasIdle, IsPause};
 
@@ -53,8 +52,7 @@ impl Counter {
         self.failures = self.failures.saturating_add(1);
     }
 
-    /// Counts an error by its kind, and returns what it is. `WouldBlock` and `Interrupted` are pauses, any other kind is a
-    /// failure.
+    /// Counts an error by its kind: `WouldBlock` and `Interrupted` are pauses, any other is a failure.
     pub fn note_error(&mut self, kind: ErrorKind) -> IoOutcome
         ensures told { ((result ≡ IoOutcome.Idle) × WasIdle self.old self.new)
             ⊎ ((result ≡ IoOutcome.Failed) × HasFailed self.old self.new) }

@@ -1,4 +1,3 @@
-//! Readers and writers that fail for good after a number of bytes.
 ghost use Rattle.std.specs.Prelude.{◌≡◌, ◌≢◌, [], ◌<◌, ◌≤◌, ◌+◌, ◌-◌, ◌^◌, min, length, take, IfErr, IfOk, IsErr, OnErr};
 ghost use Rattle.std.specs.Io.{ReadsAtMost, WritesAtMost};
 ghost use Rattle.std.specs.Io.KnownBytes.{Keeps, ReadConsumes, WriteAppends};
@@ -11,10 +10,8 @@ use crate::tally::{IoOutcome, ReadTally, Tally, WriteTally};
 use std::io;
 use std::io::{ErrorKind, Read, Write};
 
-/// Passes a number of bytes of another reader or writer, and then fails at each call. It is for tests in which a
-/// connection or link fails at any byte.
-///
-/// Its counts are the other's, with its own failures, and its log is the other's.
+/// Passes a number of bytes of another reader or writer, and then fails at each call; for tests. Its log is the
+/// other's.
 #[derive(Drop)]
 pub struct Faulty<S> {
     inner: S,
@@ -43,14 +40,13 @@ impl<S> Faulty<S> {
         self.left
     }
 
-    // The number of bytes, of these, that one call may pass.
+    // How many of these bytes one call may pass.
     fn most(&self, bytes: usize) -> usize
         ensures { result ≡ min bytes self.now.left }
     {
         (bytes as u64).min(self.left) as usize
     }
 
-    // Counts a failure of its own.
     fn fail(&mut self)
         ensures { self.new
             ≡ record self.old { failures = min (self.old.failures + 1) (2 ^ 64 - 1) } }
@@ -58,7 +54,7 @@ impl<S> Faulty<S> {
         self.failures = self.failures.saturating_add(1);
     }
 
-    // Like `most`, but fails and counts the failure where no byte is left.
+    // Fails and counts the failure where no byte is left.
     fn passes(&mut self, bytes: usize) -> io::Result<usize>
         ensures ok { IfOk result (λ n. (n ≡ min bytes self.old.left) × (0 < self.old.left)
             × (self.new ≡ self.old)) }
@@ -73,7 +69,6 @@ impl<S> Faulty<S> {
         Ok(self.most(bytes))
     }
 
-    // Records the other's result.
     fn pass(&mut self, told: IoOutcome)
         requires { moved_count told ≤ self.old.left }
         ensures { self.new ≡ record self.old { left = self.old.left - moved_count told } }
@@ -97,8 +92,7 @@ impl<S: Tally> Tally for Faulty<S> {
 }
 
 impl<S: ReadTally> Faulty<S> {
-    /// Reads once from the other one, at most the bytes left, into a buffer that isn't empty. Where none are left it
-    /// fails, and the other one isn't called.
+    /// Reads once, at most the bytes left. Where none are left it fails, and the other one isn't called.
     pub fn read_passed(&mut self, buffer: &mut [u8]) -> IoOutcome
         requires room { 0 < length buffer.old }
         ensures passes { 0 < self.old.left → IsRead
@@ -122,8 +116,7 @@ impl<S: ReadTally> Faulty<S> {
 }
 
 impl<S: WriteTally> Faulty<S> {
-    /// Writes once to the other one, at most the bytes left, of at least one byte. Where none are left it fails, and
-    /// the other one isn't called.
+    /// Writes once, at most the bytes left. Where none are left it fails, and the other one isn't called.
     pub fn write_passed(&mut self, bytes: &[u8]) -> IoOutcome
         requires some { bytes.now ≢ [] }
         ensures passes { 0 < self.old.left → IsWritten
@@ -149,8 +142,7 @@ impl<S: WriteTally> Faulty<S> {
 impl<S: Read> Read for Faulty<S> {
     ghost remaining = { λ f. S.remaining f.inner };
 
-    /// Reads once from the other one, at most the bytes left. Where none are left it fails with `ConnectionReset`, and
-    /// the other one isn't called.
+    /// As `read_passed`; its own failure is `ConnectionReset`.
     fn read(&mut self, buffer: &mut [u8]) -> io::Result<usize>
         ensures bound { ReadsAtMost result buffer.new }
         ensures bytes { ReadConsumes (S.remaining self.old.inner) (S.remaining self.new.inner)
@@ -173,8 +165,7 @@ impl<S: Read> Read for Faulty<S> {
 impl<S: Write> Write for Faulty<S> {
     ghost contents = { λ f. S.contents f.inner };
 
-    /// Writes once to the other one, at most the bytes left. Where none are left it fails with `ConnectionReset`, and
-    /// the other one isn't called.
+    /// As `write_passed`; its own failure is `ConnectionReset`.
     fn write(&mut self, bytes: &[u8]) -> io::Result<usize>
         ensures bound { WritesAtMost result bytes.now }
         ensures bytes { WriteAppends (S.contents self.old.inner) (S.contents self.new.inner)
@@ -193,7 +184,7 @@ impl<S: Write> Write for Faulty<S> {
         Ok(n)
     }
 
-    /// Flushes the other one. It isn't counted, and has no failure of its own.
+    /// Flushes the other one; not counted.
     fn flush(&mut self) -> io::Result<()>
         ensures bytes { Keeps (S.contents self.old.inner) (S.contents self.new.inner) }
         ensures same { (self.new.left ≡ self.old.left) × (self.new.failures ≡ self.old.failures) }

@@ -1,4 +1,3 @@
-//! Readers and writers that count their failures and pauses, with a log of their bytes for contracts.
 ghost use Rattle.std.specs.Prelude.{◌≡◌, ◌≢◌, ◌<◌, [], ℕ, List, length};
 ghost use Rattle.std.specs.Io.{ReadsAtMost, WritesAtMost};
 ghost use Rattle.std.specs.Io.KnownBytes.{Keeps, ReadConsumes, WriteAppends};
@@ -39,7 +38,7 @@ pub enum IoOutcome {
 
 /// A reader that returns what each read did, and counts.
 pub trait ReadTally: Read + Tally {
-    /// All bytes that it told since it was made, the oldest first. Proofs alone have this log.
+    /// All bytes that it told, the oldest first; only proofs have them.
     ghost told: { Self → List ℕ };
 
     /// Reads once into a buffer that isn't empty.
@@ -51,7 +50,7 @@ pub trait ReadTally: Read + Tally {
 
 /// A writer that returns what each write did, and counts.
 pub trait WriteTally: Write + Tally {
-    /// All bytes that it took since it was made, the oldest first. Proofs alone have this log.
+    /// All bytes that it took, the oldest first; only proofs have them.
     ghost taken: { Self → List ℕ };
 
     /// Writes once, at least one byte.
@@ -60,7 +59,7 @@ pub trait WriteTally: Write + Tally {
         ensures told { IsWritten (writer_state Self.contents taken Self.counts self.old)
             (writer_state Self.contents taken Self.counts self.new) bytes.now result };
 
-    /// Flushes. It takes no byte, and counts nothing.
+    /// Flushes; not counted.
     fn flush_told(&mut self) -> io::Result<()>
         ensures none { TakesNone (writer_state Self.contents taken Self.counts self.old)
             (writer_state Self.contents taken Self.counts self.new) }
@@ -72,9 +71,7 @@ pub trait WriteTally: Write + Tally {
 pub struct Tallied<S> {
     inner: S,
     counter: Counter,
-    // The bytes that it told as a reader.
     told: ByteLog,
-    // The bytes that it took as a writer.
     taken: ByteLog,
 }
 
@@ -166,7 +163,7 @@ impl<S: Write> Write for Tallied<S> {
         }
     }
 
-    /// Flushes the writer. It isn't counted.
+    /// Flushes the writer; not counted.
     fn flush(&mut self) -> io::Result<()>
         ensures bytes { Keeps (S.contents self.old.inner) (S.contents self.new.inner) }
         ensures counts { counts_of self.new ≡ counts_of self.old }

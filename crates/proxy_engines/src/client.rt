@@ -1,4 +1,3 @@
-//! A client's engine.
 ghost use Rattle.std.specs.Prelude.{◌≡◌, ◌-◌, ◌≢◌, ◌↔◌, ◌∷◌, ◌++◌, ◌⊎◌, ℕ, [], List, Option, None, Some, true, false, IfOk, IfErr, IfSome, IfNone, OnOk, OnErr};
 ghost use Rattle.std.specs.Borrow.{sem};
 ghost use Rattle.splitter.specs.Request.{Request as Asked};
@@ -59,9 +58,6 @@ pub enum Stage {
 }
 
 /// A client's engine: turns input into requests, and writes the replies that are handed out.
-///
-/// Contracts see the connection's number, both ends, the waiting request, and the numbers of accepted requests and
-/// handed out replies. They also see the stage, whether the engine is drained, and whether reading stopped for that.
 pub struct ClientEngine<R: ReadTally, W: WriteTally> {
     conn: u64,
     inbox: Inbox<R>,
@@ -76,7 +72,6 @@ pub struct ClientEngine<R: ReadTally, W: WriteTally> {
     is_halted: bool,
 }
 
-// Written out so that a drop is one call: each function that holds one is proved sooner.
 impl<R: ReadTally + Drop, W: WriteTally + Drop> Drop for ClientEngine<R, W> {
     fn drop(self) {
         let ClientEngine {
@@ -128,7 +123,7 @@ impl<R: ReadTally, W: WriteTally> ClientEngine<R, W> {
     ghost use Rattle.splitter.specs.declared.request.Request.{Request};
     ghost use Rattle.proxy_engines.specs.Lends.{lends_client_reader, lends_client_writer, with_client_reader, with_client_writer};
 
-    // One Handed turn. False: the next reply hasn't come.
+    // False: the next reply hasn't come.
     fn hand<Rt: Wait, T: CoreTurns>(&mut self, rt: &Rt, turns: &mut T) -> Result<bool, EngineError>
         requires live { IsLive self.old.stage }
         requires nothing { self.old.outbox.pending ≡ [] }
@@ -148,7 +143,6 @@ impl<R: ReadTally, W: WriteTally> ClientEngine<R, W> {
         }
     }
 
-    // One Closed turn at the end.
     fn close<Rt: Wait, T: CoreTurns>(
         &mut self,
         rt: &Rt,
@@ -175,7 +169,7 @@ impl<R: ReadTally, W: WriteTally> ClientEngine<R, W> {
         }
     }
 
-    // One Closed turn after a device's fault; the step then returns `answer`. Until it is answered no other turn is made.
+    // One Closed turn after a device's fault. Until it is answered no other turn is made.
     fn cut<Rt: Wait, T: CoreTurns>(
         &mut self,
         rt: &Rt,
@@ -200,7 +194,6 @@ impl<R: ReadTally, W: WriteTally> ClientEngine<R, W> {
         }
     }
 
-    // One Finished turn.
     fn finish<Rt: Wait, T: CoreTurns>(
         &mut self,
         rt: &Rt,
@@ -225,7 +218,7 @@ impl<R: ReadTally, W: WriteTally> ClientEngine<R, W> {
         }
     }
 
-    // Offers the waiting request in an Arrived turn. Idle: it is held back, since too many commands are unwritten.
+    // Idle: it is held back, since too many commands are unwritten.
     fn offer<Rt: Wait, T: CoreTurns>(
         &mut self,
         rt: &Rt,
@@ -257,7 +250,7 @@ impl<R: ReadTally, W: WriteTally> ClientEngine<R, W> {
         }
     }
 
-    // Fetches the next complete request. False: there is none.
+    // False: none has come whole.
     fn fetch(&mut self) -> Result<bool, EngineError>
         requires stage { self.old.stage ≡ Stage.Open }
         requires none { self.old.next ≡ None }
@@ -275,7 +268,6 @@ impl<R: ReadTally, W: WriteTally> ClientEngine<R, W> {
         }
     }
 
-    // Fetches the next complete request, unless one waits. False: there is none.
     fn fetch_if_none(&mut self) -> Result<bool, EngineError>
         requires stage { self.old.stage ≡ Stage.Open }
         requires last { self.old.is_drained ≡ true → self.old.next ≡ Some Request.Broken }
@@ -289,7 +281,6 @@ impl<R: ReadTally, W: WriteTally> ClientEngine<R, W> {
         }
     }
 
-    // One write.
     fn write<Rt: Wait, T: CoreTurns>(
         &mut self,
         rt: &Rt,
@@ -312,7 +303,7 @@ impl<R: ReadTally, W: WriteTally> ClientEngine<R, W> {
         }
     }
 
-    // Stops reading, at the end of the input or by `drain`, and makes the Finished turn.
+    // At the end of the input or by `drain`.
     fn stop_reading<Rt: Wait, T: CoreTurns>(
         &mut self,
         rt: &Rt,
@@ -329,7 +320,6 @@ impl<R: ReadTally, W: WriteTally> ClientEngine<R, W> {
         self.finish(rt, turns)
     }
 
-    // One read.
     fn read<Rt: Wait, T: CoreTurns>(
         &mut self,
         rt: &Rt,
@@ -351,7 +341,7 @@ impl<R: ReadTally, W: WriteTally> ClientEngine<R, W> {
         }
     }
 
-    // Whether nothing more may be accepted. A waiting refusal of the reader still counts, since it ends the input.
+    // A waiting refusal of the reader still counts, since it ends the input.
     fn is_to_stop(&self) -> bool
         ensures stops { result ≡ true → (self.now.is_drained ≡ true)
             × (self.now.next ≢ Some Request.Broken) }
@@ -382,7 +372,7 @@ impl<R: ReadTally, W: WriteTally> ClientEngine<R, W> {
         self.offer(rt, turns)
     }
 
-    // Whether a request may be accepted. A refused byte that waits may be, also after a drain.
+    // A refused byte that waits may be accepted, also after a drain.
     fn may_accept(&self) -> bool
         ensures may { result ≡ true → (self.now.stage ≡ Stage.Open)
             × (self.now.is_drained ≡ true → self.now.next ≡ Some Request.Broken) }
@@ -391,7 +381,6 @@ impl<R: ReadTally, W: WriteTally> ClientEngine<R, W> {
         matches!(self.stage, Stage::Open) && !self.is_to_stop()
     }
 
-    // Closes the connection, once all accepted commands are handed out.
     fn end<Rt: Wait, T: CoreTurns>(
         &mut self,
         rt: &Rt,
@@ -409,7 +398,7 @@ impl<R: ReadTally, W: WriteTally> ClientEngine<R, W> {
         self.close(rt, turns)
     }
 
-    // Hands out a reply, if one is due. No turn is made if all accepted commands are handed out, since it would be refused.
+    // No turn is made if all accepted commands are handed out, since it would be refused.
     fn hand_if_due<Rt: Wait, T: CoreTurns>(
         &mut self,
         rt: &Rt,
@@ -428,8 +417,6 @@ impl<R: ReadTally, W: WriteTally> ClientEngine<R, W> {
         self.hand(rt, turns)
     }
 
-    // One step of a connection that isn't closed and has no fault. Below it `take_in` offers or reads, `fetch` gets the
-    // next request, and `arrive` makes the turn.
     fn go_on<Rt: Wait, T: CoreTurns>(
         &mut self,
         rt: &Rt,
@@ -457,11 +444,10 @@ impl<R: ReadTally, W: WriteTally> ClientEngine<R, W> {
 
     /// Does the first of these that applies: writes pending bytes once; hands out one reply; accepts the waiting
     /// request or the next complete one; reads at most 16,384 bytes once. It closes the connection once nothing more
-    /// arrives and all is handed out and written. After [`drain`](ClientEngine::drain) no request is accepted and
-    /// nothing is read. A step of a closed connection does nothing.
+    /// arrives and all is handed out and written.
     ///
-    /// Refused 1402 or 1403 where the reader or the writer failed in this call; the connection was then closed. Refused
-    /// 1401 for want of memory and 1404 where a turn was refused; the next step then continues at the same place.
+    /// Refused 1402 or 1403 where the reader or the writer failed; the connection was then closed. Refused 1401 (no
+    /// memory) or 1404 (turn refused); the next step continues at the same place.
     pub fn step<Rt: Wait, T: CoreTurns>(
         &mut self,
         rt: &Rt,
@@ -483,11 +469,11 @@ impl<R: ReadTally, W: WriteTally> ClientEngine<R, W> {
         }
     }
 
-    /// Accepts the waiting request, or the next one that has come whole, and hands out, writes and reads nothing.
-    /// `Moved`: it was accepted. `Idle`: nothing more is accepted, too many commands are unwritten, or none has come
-    /// whole. So a pipeline that has come whole is accepted before a reply is asked for.
+    /// Accepts the waiting request, or the next one that has come whole, and does nothing else. So a pipeline that
+    /// has come whole is accepted before a reply is asked for. `Idle`: nothing more is accepted, too many commands
+    /// are unwritten, or none has come whole.
     ///
-    /// Refused 1401 for want of memory and 1404 where the turn was refused; nothing is lost.
+    /// Refused 1401 (no memory) or 1404 (turn refused); nothing is lost.
     pub fn accept<Rt: Wait, T: CoreTurns>(
         &mut self,
         rt: &Rt,
@@ -507,11 +493,9 @@ impl<R: ReadTally, W: WriteTally> ClientEngine<R, W> {
         self.offer(rt, turns)
     }
 
-    /// Reads and accepts nothing from here on, not even a waiting request: accepted ones are answered and written, and
-    /// then the connection is closed. Unused input stays for the next engine. Bytes that the reader refused still
+    /// Reads and accepts nothing from here on, not even a waiting request. Accepted ones are answered and written,
+    /// and then the connection is closed. Unused input stays for the next engine. Bytes that the reader refused still
     /// count, and finish the connection.
-    ///
-    /// Nothing else changes now, no device is called, and the engine's facts stay true.
     pub fn drain(&mut self)
         ensures drained { self.new ≡ record self.old { is_drained = true } }
         ensures carries { (H : History) (taken b : List ℕ) → Carries self.old H taken b
@@ -528,9 +512,7 @@ impl<R: ReadTally, W: WriteTally> ClientEngine<R, W> {
         self.is_halted && self.stage == Stage::Closed { is_cut: false }
     }
 
-    /// Flushes the writer. The engine's facts stay true.
-    ///
-    /// Fails as the writer's flush does; the connection goes on.
+    /// Flushes the writer. Where that fails the connection goes on.
     pub fn flush(&mut self) -> io::Result<()>
         ensures goes { (H : History) → Goes self.old self.new H H false }
         ensures stage { self.new.stage ≡ self.old.stage }
@@ -546,8 +528,7 @@ impl<R: ReadTally, W: WriteTally> ClientEngine<R, W> {
         self.inbox.reader()
     }
 
-    /// The reader, for calls that read nothing for the engine. Where these leave its log as it was, the engine's facts
-    /// stay true.
+    /// The reader, for calls that read nothing for the engine.
     pub fn reader_mut(&mut self) -> &mut R
         ensures* writes_back { sem 𝓛 (lends_client_reader R.row W.row (record { told = R.told })
             (record { remaining = R.remaining }) (record { counts = R.counts })
@@ -567,8 +548,7 @@ impl<R: ReadTally, W: WriteTally> ClientEngine<R, W> {
         self.outbox.writer()
     }
 
-    /// The writer, for calls that write nothing for the engine. Where these leave its log as it was, the engine's facts
-    /// stay true.
+    /// The writer, for calls that write nothing for the engine.
     pub fn writer_mut(&mut self) -> &mut W
         ensures* writes_back { sem 𝓛 (lends_client_writer R.row W.row (record { told = R.told })
             (record { remaining = R.remaining }) (record { counts = R.counts })

@@ -1,4 +1,3 @@
-//! A client's engine as the work of a thread.
 ghost use Rattle.std.specs.Prelude.{◌≡◌, ◌⊎◌, Bool, true, None, IfErr, OnOk, ⊤};
 ghost use Rattle.proxy_engines.specs.Client.{Goes, HasNoFault};
 ghost use Rattle.proxy_engines.specs.Moves.{AsTold};
@@ -27,10 +26,10 @@ impl<Rt: Wait, T: CoreTurns, R: ReadTally, W: WriteTally> Work<Rt> for ClientWor
 
     ghost may_answer = { λ work answer. ⊤ };
 
-    /// Steps until the connection is closed or a step is refused. After a step without a move it yields to other threads.
+    /// Steps until the connection is closed or a step is refused. After a step without a move it yields to other
+    /// threads.
     ///
-    /// Refused as the step was: after 1402 and 1403 the connection is closed; after 1401 and 1404 another run continues
-    /// at the same place.
+    /// Refused as the step was; after 1401 and 1404 another run continues at the same place.
     fn run(&mut self, rt: &Rt) -> Result<(), EngineError>
         ensures turns { KeepsTurns T.pass T.setting T.seen self.old.turns self.new.turns }
         ensures goes { AsTold (Goes self.old.engine self.new.engine

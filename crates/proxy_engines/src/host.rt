@@ -1,4 +1,3 @@
-//! A host's engine.
 ghost use Rattle.std.specs.Prelude.{◌≡◌, ◌≢◌, ◌⊎◌, ◌↔◌, ℕ, List, [], Option, Some, None, IfOk, IfErr, IfSome, IsSome, OnOk, OnErr, true, false, unwrap_or, IsTrue};
 ghost use Rattle.std.specs.Borrow.{sem};
 ghost use Rattle.proxy_history.specs.History.{History};
@@ -25,8 +24,6 @@ use std::marker::Model;
 use std::sync::Wait;
 
 /// A host's engine: takes and writes waiting parts, and turns input into replies.
-///
-/// Contracts see its outbox, its link, if there is one, and a fault that isn't recorded yet.
 pub struct HostEngine<R: ReadTally, W: WriteTally> {
     alloc: Global,
     outbox: HostOutbox,
@@ -34,7 +31,6 @@ pub struct HostEngine<R: ReadTally, W: WriteTally> {
     fault: Option<Kind>,
 }
 
-// Written out so that a drop is one call: each function that holds one is proved sooner.
 impl<R: ReadTally + Drop, W: WriteTally + Drop> Drop for HostEngine<R, W> {
     fn drop(self) {
         let HostEngine {
@@ -130,8 +126,7 @@ impl<R: ReadTally + Drop, W: WriteTally + Drop> HostEngine<R, W> {
         }
     }
 
-    /// The link's reader, if there is a link, for calls that read nothing for the engine. Where these leave its log as
-    /// it was, the engine's facts stay true.
+    /// The link's reader, if there is a link, for calls that read nothing for the engine.
     pub fn reader_mut(&mut self) -> Option<&mut R>
         ensures* writes_back { sem 𝓛 (lends_host_reader R.row W.row (record { told = R.told })
             (record { remaining = R.remaining }) (record { counts = R.counts })
@@ -161,8 +156,7 @@ impl<R: ReadTally + Drop, W: WriteTally + Drop> HostEngine<R, W> {
         }
     }
 
-    /// The link's writer, if there is a link, for calls that write nothing for the engine. Where these leave its log as
-    /// it was, the engine's facts stay true.
+    /// The link's writer, if there is a link, for calls that write nothing for the engine.
     pub fn writer_mut(&mut self) -> Option<&mut W>
         ensures* writes_back { sem 𝓛 (lends_host_writer R.row W.row (record { told = R.told })
             (record { remaining = R.remaining }) (record { counts = R.counts })
@@ -179,7 +173,7 @@ impl<R: ReadTally + Drop, W: WriteTally + Drop> HostEngine<R, W> {
         }
     }
 
-    // Records a fault and drops the link. If the turn is refused, the next step makes it first.
+    // If the turn is refused, the next step makes it first.
     fn record_fault<Rt: Wait, T: CoreTurns>(
         &mut self,
         rt: &Rt,
@@ -197,7 +191,7 @@ impl<R: ReadTally + Drop, W: WriteTally + Drop> HostEngine<R, W> {
         Ok(())
     }
 
-    /// Attaches a link to the host. There must be none, and no fault that isn't recorded.
+    /// Attaches a link. The host must have none, and no fault that isn't recorded.
     ///
     /// Refused 1401: the reader and the writer come back, and the engine hasn't changed.
     pub fn attach(&mut self, reader: R, writer: W) -> Result<(), (EngineError, R, W)>
@@ -238,8 +232,8 @@ impl<R: ReadTally + Drop, W: WriteTally + Drop> HostEngine<R, W> {
         self.record_fault(rt, turns, Kind::Refused, moment)
     }
 
-    /// Gives up the host's parts: one Failed turn of kind Dropped, and a link is dropped. A fault that isn't recorded
-    /// yet gives its own kind instead. A value that waits for its turn is dropped with the link.
+    /// Gives up the host's parts: one Failed turn of kind Dropped, or of the kind of a fault that isn't recorded yet.
+    /// A link is dropped, with a value that waits for its turn.
     ///
     /// Refused 1404: the next step makes that turn first.
     pub fn give_up<Rt: Wait, T: CoreTurns>(
@@ -255,7 +249,6 @@ impl<R: ReadTally + Drop, W: WriteTally + Drop> HostEngine<R, W> {
         self.record_fault(rt, turns, kind, moment)
     }
 
-    // Records a fault, and returns the step's result.
     fn tell_fault<Rt: Wait, T: CoreTurns>(
         &mut self,
         rt: &Rt,
@@ -277,7 +270,6 @@ impl<R: ReadTally + Drop, W: WriteTally + Drop> HostEngine<R, W> {
         }
     }
 
-    // One step on the link.
     fn go_on_link<Rt: Wait, T: CoreTurns>(
         &mut self,
         rt: &Rt,
@@ -322,7 +314,6 @@ impl<R: ReadTally + Drop, W: WriteTally + Drop> HostEngine<R, W> {
         }
     }
 
-    // One step without a link.
     fn go_on_alone<Rt: Wait, T: CoreTurns>(
         &mut self,
         rt: &Rt,
@@ -368,7 +359,6 @@ impl<R: ReadTally + Drop, W: WriteTally + Drop> HostEngine<R, W> {
         }
     }
 
-    // Writes pending bytes once, or takes one part, where there is a link and no unrecorded fault.
     fn send_on<Rt: Wait, T: CoreTurns>(
         &mut self,
         rt: &Rt,
@@ -393,12 +383,11 @@ impl<R: ReadTally + Drop, W: WriteTally + Drop> HostEngine<R, W> {
     }
 
     /// Sends at this moment, in milliseconds, and reads nothing: on a link it writes pending bytes once, or takes one
-    /// part if none are pending. `Moved`: the writer took bytes, or a part was taken. `Idle`: the writer paused, no part
-    /// waits, there is no link, or an earlier fault is to be recorded first. So all parts that wait are sent before the
-    /// link is read.
+    /// part if none are pending. So all parts that wait are sent before the link is read. `Idle`: the writer paused,
+    /// no part waits, there is no link, or an earlier fault is to be recorded first.
     ///
-    /// A failed write is a fault of kind Dropped, as in [`step`](HostEngine::step), and refused 1403. Refused 1401 for
-    /// want of memory and 1404 where a turn was refused; the next call then continues at the same place.
+    /// A failed write is a fault of kind Dropped, and refused 1403. Refused 1401 (no memory) or 1404 (turn refused);
+    /// the next call continues at the same place.
     pub fn send<Rt: Wait, T: CoreTurns>(
         &mut self,
         rt: &Rt,
@@ -417,14 +406,14 @@ impl<R: ReadTally + Drop, W: WriteTally + Drop> HostEngine<R, W> {
     }
 
     /// Makes a step at this moment, in milliseconds. It records an earlier fault. It writes pending bytes once, or
-    /// takes one part. On a link it makes a reply of each value read, reads once, and makes a reply of each value that
-    /// came. Last, a late reply is a fault.
+    /// takes one part. On a link it makes a reply of each value read, reads once, and makes a reply of each value
+    /// that came. Last, a late reply is a fault.
     ///
     /// A fault is recorded and the link dropped. It is Dropped at the end of the input or where a device failed,
     /// Garbled for a refused byte or an unasked value, or Late. `NeedsLink`: bytes are pending and there is no link.
     ///
-    /// Refused 1402 or 1403 where the reader or the writer failed in this call; the fault was then recorded. Refused
-    /// 1401 for want of memory and 1404 where a turn was refused; the next step then continues at the same place.
+    /// Refused 1402 or 1403 where the reader or the writer failed; the fault was then recorded. Refused 1401 (no
+    /// memory) or 1404 (turn refused); the next step continues at the same place.
     pub fn step<Rt: Wait, T: CoreTurns>(
         &mut self,
         rt: &Rt,

@@ -1,4 +1,3 @@
-//! The output for a host: its pending text, and when each part without a reply was taken.
 ghost use Rattle.std.specs.Prelude.{◌≡◌, ◌≢◌, ◌⊎◌, ◌++◌, ◌==◌, ◌↔◌, ℕ, List, [], Option, None, true, false, length, drop, IfOk, IfErr, OnOk, OnErr, IsTrue};
 ghost use Rattle.std.specs.Io.KnownBytes.{Appends};
 ghost use Rattle.proxy_history.specs.declared.event.Event.{Event};
@@ -50,7 +49,7 @@ impl Model for HostOutbox {
 }
 
 impl HostOutbox {
-    /// The outbox of this host, whose replies are late after `reply_ms` milliseconds.
+    /// Replies are late after `reply_ms` milliseconds.
     pub(crate) fn new(alloc: Global, host: usize, reply_ms: u64) -> HostOutbox
         ensures { result ≡ record {
           host = host;
@@ -71,7 +70,6 @@ impl HostOutbox {
         }
     }
 
-    /// Whether a part was taken that has no reply yet.
     pub(crate) fn awaits_reply(&self) -> bool
         ensures { IsTrue result ↔ self.now.moments ≢ [] }
     {
@@ -147,7 +145,6 @@ impl HostOutbox {
         }
     }
 
-    /// Whether the oldest part without a reply was taken so long ago that its reply is late.
     pub(crate) fn is_late(&self, moment: u64) -> bool
         ensures { (result ≡ true) ↔ IsLate self.now moment }
     {
@@ -157,14 +154,12 @@ impl HostOutbox {
         }
     }
 
-    /// Its host.
     pub(crate) fn host(&self) -> usize
         ensures { result ≡ self.now.host }
     {
         self.host
     }
 
-    /// Its epoch.
     pub(crate) fn epoch(&self) -> u64
         ensures { result ≡ self.now.epoch }
     {
@@ -178,7 +173,6 @@ impl HostOutbox {
         let _oldest = self.moments.pop_front();
     }
 
-    /// Writes pending bytes once.
     pub(crate) fn write_to<W: WriteTally>(&mut self, writer: &mut W) -> IoOutcome
         requires some { self.old.pending ≢ [] }
         ensures bytes { (gave rest : List ℕ)
@@ -195,7 +189,6 @@ impl HostOutbox {
         told
     }
 
-    /// Whether no bytes are pending.
     pub(crate) fn is_empty(&self) -> bool
         ensures { result ≡ (length self.now.pending == 0) }
     {

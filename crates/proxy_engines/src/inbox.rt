@@ -1,4 +1,3 @@
-//! Input that isn't used yet.
 ghost use Rattle.std.specs.Prelude.{true, ◌≡◌, ◌≢◌, ◌≤◌, ◌↔◌, ◌++◌, ◌∷◌, ℕ, List, [], length, Some, None, IfOk, IfErr, IfSome, IfNone, OnErr, OnOk};
 ghost use Rattle.std.specs.Borrow.{sem};
 ghost use Rattle.proxy_devices.specs.Device.{reader_state};
@@ -18,7 +17,6 @@ pub const READ_SIZE: usize = 16_384;
 // The most bytes of a first read, and the least length of the buffer.
 const MIN_READ_SIZE: usize = 1_024;
 
-// Whether memory was refused, and not a byte.
 fn is_memory(error: &RespError) -> bool
     ensures { (result ≡ true) ↔ (error.now ≡ RespError.NoMemory) }
 {
@@ -40,8 +38,6 @@ fn fitting_size(length: usize, last: usize) -> usize
 }
 
 /// A client's unused input: the waiting request, an unfinished command, and bytes not looked at.
-///
-/// Contracts see the request, the bytes not looked at, and the reader of values, which has refused nothing.
 #[derive(Drop)]
 pub struct Rest {
     next: Option<Request>,
@@ -76,7 +72,6 @@ impl Model for Rest {
         × (r.values.refusal ≡ None) };
 }
 
-/// A reader, its latest bytes, and the reader of values.
 #[derive(Drop)]
 pub(crate) struct Inbox<R: ReadTally> {
     alloc: Global,
@@ -120,7 +115,7 @@ impl<R: ReadTally> Inbox<R> {
     ghost use Rattle.proxy_engines.specs.Ends.{GivesNext, Holds, IsCut, KeepsReader, ReadsOnce};
     ghost use Rattle.proxy_engines.specs.Lends.{lends_reader, with_reader};
 
-    /// An inbox that has read nothing. Without memory for its buffer the reader comes back.
+    /// Without memory for its buffer the reader comes back.
     pub(crate) fn new(alloc: Global, input: R, limits: Limits) -> Result<Inbox<R>, R>
         ensures left { IfOk result (λ i. i.left ≡ R.remaining input) }
         ensures told { IfOk result (λ i. (i.told ≡ R.told input) × (i.counts ≡ R.counts input)) }
@@ -143,7 +138,6 @@ impl<R: ReadTally> Inbox<R> {
         }
     }
 
-    /// An inbox that goes on from this rest, and the waiting request.
     pub(crate) fn with(input: R, rest: Rest) -> (Inbox<R>, Option<Request>)
         ensures left { result.0.left ≡ R.remaining input }
         ensures told { (result.0.told ≡ R.told input) × (result.0.counts ≡ R.counts input) }
@@ -172,7 +166,6 @@ impl<R: ReadTally> Inbox<R> {
         (inbox, next)
     }
 
-    /// The reader and the unused input, with this waiting request. Nothing may have been refused.
     pub(crate) fn into_rest(self, next: Option<Request>) -> (R, Rest)
         requires { self.values.refusal ≡ None }
         ensures left { R.remaining result.0 ≡ self.left }
@@ -203,7 +196,6 @@ impl<R: ReadTally> Inbox<R> {
         (input, rest)
     }
 
-    /// The reader.
     pub(crate) fn reader(&self) -> &R
         ensures { self.now ≡ with_reader self.now
             (reader_state R.remaining R.told R.counts result.now) }
@@ -211,7 +203,6 @@ impl<R: ReadTally> Inbox<R> {
         &self.input
     }
 
-    /// The reader, for calls that read nothing for the engine.
     pub(crate) fn reader_mut(&mut self) -> &mut R
         ensures* writes_back { sem 𝓛 (lends_reader R.row (record { told = R.told })
             (record { remaining = R.remaining }) (record { counts = R.counts }) self.entry result) }
@@ -221,8 +212,7 @@ impl<R: ReadTally> Inbox<R> {
         &mut self.input
     }
 
-    // Doubles the buffer if the last read filled it, and halves it if an eighth was enough, as memory allows. Its
-    // content must have been used.
+    // Doubles the buffer if the last read filled it, and halves it if an eighth was enough, as memory allows.
     fn fit(&mut self)
         requires { self.old.fresh ≡ [] }
         ensures { self.new ≡ self.old }
@@ -235,7 +225,7 @@ impl<R: ReadTally> Inbox<R> {
         }
     }
 
-    /// Reads once. The previous read must have been used.
+    /// The previous read must have been used.
     pub(crate) fn read_once(&mut self) -> IoOutcome
         requires { self.old.fresh ≡ [] }
         ensures few { length self.new.fresh ≤ READ_SIZE }
@@ -253,7 +243,6 @@ impl<R: ReadTally> Inbox<R> {
         told
     }
 
-    // Feeds the latest bytes to the reader of values.
     fn feed(&mut self) -> Result<(), AllocError>
         requires { self.old.values.refusal ≡ None }
         ensures fresh { OnOk result (self.new.fresh ≡ []) }
@@ -272,7 +261,7 @@ impl<R: ReadTally> Inbox<R> {
         Ok(())
     }
 
-    // The next command, if it is read as its text alone. Nothing may have been refused before.
+    // The next command, if it is read as its text alone.
     fn next_spelled(&mut self) -> Result<Option<SpelledCommand>, AllocError>
         requires { self.old.values.refusal ≡ None }
         ensures some { IfOk result (λ o. IfSome o (λ c. (b : List ℕ) (rs : List Asked)
@@ -294,7 +283,7 @@ impl<R: ReadTally> Inbox<R> {
         Ok(Some(command))
     }
 
-    /// The next complete request; a refused byte is one too. Nothing may have been refused before.
+    /// The next complete request; a refused byte is one too.
     ///
     /// Refused where there is no memory; nothing is lost.
     pub(crate) fn next_request(&mut self) -> Result<Option<Request>, AllocError>
@@ -315,8 +304,6 @@ impl<R: ReadTally> Inbox<R> {
     }
 
     /// The same, read as a value.
-    ///
-    /// Refused where there is no memory; nothing is lost.
     pub(crate) fn next_read(&mut self) -> Result<Option<Request>, AllocError>
         requires { self.old.values.refusal ≡ None }
         ensures next { IfOk result (λ o. GivesNext self.old self.new o) }

@@ -1,4 +1,4 @@
-//! Laws of engines, and the limit of one read. Each is the contract of a function that does nothing.
+//! Laws, each the contract of a function that does nothing.
 ghost use Rattle.std.specs.Prelude.{◌≡◌};
 ghost use Rattle.proxy_engines.specs.Laws.{AcceptedAreFirst, ClientsLeaveOthers, EndedIsOver, EndedIsWhole, HostsLeaveOthers, OthersLeaveClients, OthersLeaveHosts};
 ghost use Rattle.proxy_engines.specs.Keeps.{ClientsKeepSockets, HostsKeepLinks};
@@ -37,12 +37,9 @@ pub fn engines_leave_others()
     ensures hosts { HostsLeaveOthers }
 {}
 
-/// A socket has one connection after another, each in its own generation. The requests that the connections accept, one
-/// after another, are the first ones that all bytes read from the socket give. What its writer took, with pending bytes,
-/// is what was handed out to the connections, one after another.
-///
-/// This holds at the first connection. It stays true over each move of an engine, over other callers' steps, and where
-/// an engine is opened with the rest of another.
+/// A socket has one connection after another, each in its own generation. The requests that the connections accept,
+/// one after another, are the first ones that all bytes read from the socket give. What its writer took, with pending
+/// bytes, is what was handed out to the connections, one after another.
 pub fn sockets_go_on()
     ensures begins { SocketBegins }
     ensures moves { SocketMoves }
@@ -53,9 +50,9 @@ pub fn sockets_go_on()
     ensures ends { SocketEndsWhole }
 {}
 
-/// At any device, sockets included, a client's engine carries all that its writer took and its reader told since it was
-/// opened: over its moves, a drain, and other callers' steps. So the writer's log, with pending bytes, grew by what was
-/// handed out. The accepted requests are the first ones that the bytes told since then give.
+/// At any device, a client's engine carries all that its writer took and its reader told since it was opened. So the
+/// writer's log, with pending bytes, grew by what was handed out. The accepted requests are the first ones that the
+/// bytes told since then give.
 pub fn clients_carry_logs()
     ensures { ClientsCarryLogs }
 {}
@@ -65,10 +62,9 @@ pub fn sockets_carry_logs()
     ensures { SocketsCarryLogs }
 {}
 
-/// A host's engine carries all that its link's writer took and its reader told since the link was attached: over its
-/// moves, over a fault, which gives up the link, and over other callers' steps. So the writer's log, with pending bytes,
-/// grew by what was sent to the host in its epoch. The replies that came are the first values of the bytes told since
-/// then.
+/// A host's engine carries all that its link's writer took and its reader told since the link was attached. So the
+/// writer's log, with pending bytes, grew by what was sent to the host in its epoch. The replies that came are the
+/// first values of the bytes told since then.
 pub fn hosts_carry_logs()
     ensures { HostsCarryLogs }
 {}

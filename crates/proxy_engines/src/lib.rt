@@ -1,14 +1,10 @@
 //! The engines: the proxy's ends of clients and hosts.
 //!
-//! A [`ClientEngine`] turns its input into a connection's events at a core, and writes the replies that the core hands
-//! out. A [`HostEngine`] writes the core's parts to a host, and turns the link's input into replies. Both are lent
-//! turns (`CoreTurns`): a pass at a gate, or a core of their own. Readers and writers only have to count their failures
-//! and pauses ([`Tally`]), and for contracts to keep a log of their bytes; [`Tallied`] does this for any socket.
-//! A [`ClientWork`] steps one client's engine to its end, as a [`Work`] that [`run_all`] runs beside others.
+//! A [`ClientEngine`] turns its input into a connection's events at a core, and writes the replies that the core
+//! hands out. A [`HostEngine`] writes the core's parts to a host, and turns the link's input into replies. Both are
+//! lent turns (`CoreTurns`): a pass at a gate, or a core of their own.
 //!
-//! Contracts state the facts of an engine from step to step, over its own caller's steps and its devices' logs, and what
-//! follows at the end. It stands on `proxy_core`, `proxy_devices` and `engine_work`. Begin with `client.rt`, then
-//! `host.rt`.
+//! It stands on `proxy_core`, `proxy_devices` and `engine_work`. Begin with `client.rt`, then `host.rt`.
 #![tactic(auto)]
 
 mod client;

@@ -1,4 +1,3 @@
-//! A link to a host.
 ghost use Rattle.std.specs.Prelude.{◌≡◌, ◌≢◌, ◌⊎◌, ℕ, [], Option, Some, None, IfOk, IfErr, OnErr, true, false};
 ghost use Rattle.limits.specs.declared.messages.TheConstants.{MAX_HOST_MEMBERS};
 ghost use Rattle.proxy_history.specs.History.{History};
@@ -38,9 +37,7 @@ pub(crate) struct Link<R: ReadTally, W: WriteTally> {
 /// The result of a move.
 #[derive(Clone, Copy, Drop)]
 pub(crate) enum Outcome {
-    /// Nothing could be done for now.
     Idle,
-    /// Bytes or steps were added.
     Moved,
     /// A fault of the link, and the step's error once the fault is recorded.
     Fault {
@@ -50,7 +47,6 @@ pub(crate) enum Outcome {
 }
 
 impl Outcome {
-    /// Whether it is a fault.
     pub(crate) fn is_fault(&self) -> bool
         ensures { result ≡ is_fault self.now }
     {
@@ -69,7 +65,6 @@ impl Outcome {
     }
 }
 
-// The next thing in the bytes read.
 #[derive(Clone, Copy, Drop)]
 enum NextValue {
     Value,
@@ -102,7 +97,6 @@ impl<R: ReadTally, W: WriteTally> Link<R, W> {
     ghost use Rattle.proxy_engines.specs.Ends.{Holds};
     ghost use Rattle.proxy_engines.specs.Lends.{lends_link_reader, lends_link_writer, with_link_reader, with_link_writer};
 
-    /// The reader.
     pub(crate) fn reader(&self) -> &R
         ensures { self.now ≡ with_link_reader self.now
             (reader_state R.remaining R.told R.counts result.now) }
@@ -110,7 +104,6 @@ impl<R: ReadTally, W: WriteTally> Link<R, W> {
         self.inbox.reader()
     }
 
-    /// The reader, for calls that read nothing for the engine.
     pub(crate) fn reader_mut(&mut self) -> &mut R
         ensures* writes_back { sem 𝓛 (lends_link_reader R.row W.row (record { told = R.told })
             (record { remaining = R.remaining }) (record { counts = R.counts })
@@ -122,7 +115,6 @@ impl<R: ReadTally, W: WriteTally> Link<R, W> {
         self.inbox.reader_mut()
     }
 
-    /// The writer.
     pub(crate) fn writer(&self) -> &W
         ensures { self.now ≡ with_link_writer self.now
             (writer_state W.contents W.taken W.counts result.now) }
@@ -130,7 +122,6 @@ impl<R: ReadTally, W: WriteTally> Link<R, W> {
         &self.writer
     }
 
-    /// The writer, for calls that write nothing for the engine.
     pub(crate) fn writer_mut(&mut self) -> &mut W
         ensures* writes_back { sem 𝓛 (lends_link_writer R.row W.row (record { told = R.told })
             (record { remaining = R.remaining }) (record { counts = R.counts })
@@ -142,7 +133,7 @@ impl<R: ReadTally, W: WriteTally> Link<R, W> {
         &mut self.writer
     }
 
-    /// A link before any read or write. Without memory both ends come back.
+    /// Without memory both ends come back.
     pub(crate) fn new(alloc: Global, reader: R, writer: W) -> Result<Link<R, W>, (R, W)>
         ensures inbox { IfOk result (λ k. (k.inbox.left ≡ R.remaining reader)
             × (k.inbox.values.most ≡ MAX_HOST_MEMBERS) × (k.inbox.values.refusal ≡ None)) }
@@ -163,7 +154,6 @@ impl<R: ReadTally, W: WriteTally> Link<R, W> {
         }
     }
 
-    // Writes pending bytes once.
     fn write(&mut self, outbox: &mut HostOutbox) -> Outcome
         requires some { outbox.old.pending ≢ [] }
         ensures goes { GoesWithoutTurn (on_link outbox.old self.old) (on_link outbox.new self.new)
@@ -180,7 +170,6 @@ impl<R: ReadTally, W: WriteTally> Link<R, W> {
         }
     }
 
-    // Looks for the next complete value.
     fn next_value(&mut self) -> Result<NextValue, EngineError>
         requires whole { self.old.inbox.values.refusal ≡ None }
         ensures goes { (outbox : HostOutboxState)
@@ -206,7 +195,6 @@ impl<R: ReadTally, W: WriteTally> Link<R, W> {
         }
     }
 
-    // One Answered turn of the waiting value.
     fn answer<Rt: Wait, T: CoreTurns>(
         &mut self,
         outbox: &mut HostOutbox,
@@ -242,7 +230,6 @@ impl<R: ReadTally, W: WriteTally> Link<R, W> {
         }
     }
 
-    // Reads once.
     fn read(&mut self) -> Outcome
         requires none { self.old.next ≡ None }
         requires given { HasGivenAll self.old.inbox }
@@ -264,7 +251,6 @@ impl<R: ReadTally, W: WriteTally> Link<R, W> {
         }
     }
 
-    // Makes the turn of the next complete value, if there is one.
     fn answer_next<Rt: Wait, T: CoreTurns>(
         &mut self,
         outbox: &mut HostOutbox,
@@ -291,7 +277,6 @@ impl<R: ReadTally, W: WriteTally> Link<R, W> {
         }
     }
 
-    // Makes the turns of all complete values.
     fn answer_all<Rt: Wait, T: CoreTurns>(
         &mut self,
         outbox: &mut HostOutbox,
@@ -319,7 +304,6 @@ impl<R: ReadTally, W: WriteTally> Link<R, W> {
         unreachable!()
     }
 
-    /// Writes pending bytes once, or takes one part.
     pub(crate) fn send<Rt: Wait, T: CoreTurns>(
         &mut self,
         outbox: &mut HostOutbox,
@@ -376,7 +360,6 @@ impl<R: ReadTally, W: WriteTally> Link<R, W> {
         Ok(before.or(heard).or(after))
     }
 
-    /// One step on the link, until a fault must be recorded.
     pub(crate) fn step<Rt: Wait, T: CoreTurns>(
         &mut self,
         outbox: &mut HostOutbox,

@@ -1,4 +1,3 @@
-//! One turn, and its effect on the caller's own steps.
 ghost use Rattle.std.specs.Prelude.{◌≡◌, ◌∷◌, [], ℕ, IfOk, IfErr, OnOk};
 ghost use Rattle.journal_core.specs.Journal.{step_by};
 ghost use Rattle.ticket_gate.specs.Journal.{AddsTurn};
@@ -17,8 +16,8 @@ use resp_core::Value;
 use std::sync::Wait;
 use ticket_gate::TurnRefusal;
 
-/// The engine's error for a turn that was not made. It returns `answer` where that isn't an error: the next reply hasn't
-/// come, a command is held back, no part waits, or a host has sent an unasked reply.
+/// The engine's error for a turn that was not made. It returns `answer` where that isn't an error: the next reply
+/// hasn't come, a command is held back, no part waits, or a host has sent an unasked reply.
 pub(crate) fn told_as<A: Drop>(denied: Denied, answer: A) -> Result<A, EngineError>
     ensures { result ≡ told_as denied answer }
 {
@@ -58,7 +57,7 @@ pub(crate) fn offer_event<Rt: Wait, T: CoreTurns>(
     }
 }
 
-/// Makes one turn, and drops the event if it is refused.
+/// The event is dropped if it is refused.
 #[inline(always)]
 pub(crate) fn make_turn<Rt: Wait, T: CoreTurns>(
     rt: &Rt,
@@ -83,14 +82,13 @@ pub(crate) fn make_turn<Rt: Wait, T: CoreTurns>(
     }
 }
 
-// Whether an answer of the proxy's own finishes the connection.
 fn is_last_answer(local: Option<Local>) -> bool
     ensures { result ≡ is_last_answer local }
 {
     matches!(local, Some(Local::Bye | Local::Broken))
 }
 
-/// One Arrived turn. True: the request finishes its connection. A refused request comes back.
+/// True: the request finishes its connection. A refused request comes back.
 pub(crate) fn arrive<Rt: Wait, T: CoreTurns>(
     rt: &Rt,
     turns: &mut T,
@@ -115,7 +113,7 @@ pub(crate) fn arrive<Rt: Wait, T: CoreTurns>(
     }
 }
 
-/// One Opened turn. Returns the connection's number, which is in no earlier step.
+/// Returns the connection's number, which is in no earlier step.
 pub(crate) fn open<Rt: Wait, T: CoreTurns>(rt: &Rt, turns: &mut T) -> Result<u64, Denied>
     ensures turns { KeepsTurns T.pass T.setting T.seen turns.old turns.new }
     ensures answered { IfOk result (λ c. own_history T.pass T.seen turns.new ≡ step_by
@@ -132,7 +130,7 @@ pub(crate) fn open<Rt: Wait, T: CoreTurns>(rt: &Rt, turns: &mut T) -> Result<u64
     }
 }
 
-/// One Answered turn. A refused value comes back.
+/// A refused value comes back.
 pub(crate) fn give<Rt: Wait, T: CoreTurns>(
     rt: &Rt,
     turns: &mut T,

@@ -1,4 +1,3 @@
-//! The output that isn't written yet.
 ghost use Rattle.std.specs.Prelude.{◌≡◌, ◌≢◌, ◌==◌, length, []};
 ghost use Rattle.std.specs.Borrow.{sem};
 ghost use Rattle.std.specs.Io.KnownBytes.{Keeps};
@@ -10,7 +9,6 @@ use std::io;
 use std::io::Write;
 use std::marker::Model;
 
-/// A writer, and its pending text.
 #[derive(Drop)]
 pub(crate) struct Outbox<W: WriteTally> {
     writer: W,
@@ -34,7 +32,6 @@ impl<W: WriteTally> Outbox<W> {
     ghost use Rattle.proxy_engines.specs.Ends.{WritesOnce};
     ghost use Rattle.proxy_engines.specs.Lends.{lends_writer, with_writer};
 
-    /// An outbox without a text.
     pub(crate) fn new(writer: W) -> Outbox<W>
         ensures held { result.held ≡ W.contents writer }
         ensures taken { result.taken ≡ W.taken writer }
@@ -47,14 +44,13 @@ impl<W: WriteTally> Outbox<W> {
         }
     }
 
-    /// Whether no bytes are pending.
     pub(crate) fn is_empty(&self) -> bool
         ensures { result ≡ (length self.now.pending == 0) }
     {
         self.pending.is_empty()
     }
 
-    /// Takes the next text. There must be no pending bytes.
+    /// There must be no pending bytes.
     pub(crate) fn put(&mut self, text: Bytes)
         requires { self.old.pending ≡ [] }
         ensures { self.new ≡ record self.old { pending = text } }
@@ -62,7 +58,7 @@ impl<W: WriteTally> Outbox<W> {
         self.pending = text;
     }
 
-    /// Writes once. There must be pending bytes.
+    /// There must be pending bytes.
     pub(crate) fn write_once(&mut self) -> IoOutcome
         requires some { self.old.pending ≢ [] }
         ensures writes { WritesOnce self.old self.new result }
@@ -74,7 +70,6 @@ impl<W: WriteTally> Outbox<W> {
         told
     }
 
-    /// Flushes the writer.
     pub(crate) fn flush(&mut self) -> io::Result<()>
         ensures held { Keeps self.old.held self.new.held }
         ensures taken { self.new.taken ≡ self.old.taken }
@@ -84,7 +79,6 @@ impl<W: WriteTally> Outbox<W> {
         self.writer.flush_told()
     }
 
-    /// The writer.
     pub(crate) fn writer(&self) -> &W
         ensures { self.now ≡ with_writer self.now
             (writer_state W.contents W.taken W.counts result.now) }
@@ -92,7 +86,6 @@ impl<W: WriteTally> Outbox<W> {
         &self.writer
     }
 
-    /// The writer, for calls that write nothing for the engine.
     pub(crate) fn writer_mut(&mut self) -> &mut W
         ensures* writes_back { sem 𝓛 (lends_writer W.row (record { taken = W.taken })
             (record { contents = W.contents }) (record { counts = W.counts }) self.entry result) }
@@ -102,7 +95,7 @@ impl<W: WriteTally> Outbox<W> {
         &mut self.writer
     }
 
-    /// The writer. Pending bytes are dropped.
+    /// Pending bytes are dropped.
     pub(crate) fn into_writer(self) -> W
         ensures held { W.contents result ≡ self.held }
         ensures taken { W.taken result ≡ self.taken }

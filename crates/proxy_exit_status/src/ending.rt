@@ -1,17 +1,16 @@
-//! How the program ends when it can't go on.
 ghost use Rattle.std.specs.Prelude.{◌≡◌};
 ghost use Rattle.proxy_exit_status.specs.declared.ending.Ending.TheVariants.{Memory};
 
 use std::alloc::{AllocError, AllocFailed};
 use thiserror::Error;
 
-/// Why the program ended before its work was done. Its text goes to standard error.
+/// Why the program ended early.
 #[derive(Clone, Copy, Debug, PartialEq, Eq, Drop, Error)]
 pub enum Ending {
-    /// Status 4: the journal has no room for another step.
+    /// Status 4: the journal is full.
     #[error("journal full")]
     JournalFull,
-    /// Status 5: a standard stream or a socket failed.
+    /// Status 5: a stream or a socket failed.
     #[error("socket")]
     Socket,
     /// Status 6: memory was refused.
@@ -25,7 +24,7 @@ pub enum Ending {
 impl Ending {
     ghost use Rattle.proxy_exit_status.specs.Ending.{status_of};
 
-    /// The program's exit status, 4 to 7.
+    /// The exit status, 4 to 7.
     pub fn status(self) -> u8
         ensures { result ≡ status_of self }
     {

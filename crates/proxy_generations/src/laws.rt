@@ -1,15 +1,8 @@
-//! Laws that follow from the contracts.
 ghost use Rattle.proxy_generations.specs.Laws.{AllOpenInTurn, DrainInOrder, FewDrain, GivenUpIfNear, NewestHandsOver, OldestIsInTheWay, OneIsOpen, OpenHaveConnections, StopsIfFull};
 
-/// At most `MAX_GENERATIONS` generations have connections: the newest one, and those that drain, which opened before it
-/// one after another. From the first opening on there is a newest one. The next one opens only while one more may drain.
-/// It starts from the handover of the newest one, which is still the newest.
-///
-/// Only one in the way of the next is given up or stops: the oldest, where as many drain as may. By then as many
-/// generations have opened, with it, as may have connections. It is given up only if the newest one was near its marks
-/// while it was in the way. By then no host had answered its commands for `STILL_MS` milliseconds, or the newest one had
-/// been open for `MAX_DRAINING_MS`. It stops only if the newest one was full while it was in the way, at least
-/// `GIVING_UP_MS` milliseconds after the newest one was near.
+/// At most `MAX_GENERATIONS` generations have connections. The next one opens only while one more may drain, from the
+/// handover of the newest one. Only the oldest one is given up or stops, where as many drain as may, and only after
+/// the waits that `near` and `full` name.
 pub fn generations_follow<H>()
     ensures connections { OpenHaveConnections H }
     ensures few { FewDrain H }

@@ -1,7 +1,5 @@
-//! Decides how `redproxy serve` goes on when a journal is nearly full: the life of its generations.
-//!
-//! That is: which one serves, which drain and which is given up, when the next one opens, and when a sweep is due. No
-//! threads, sockets or clocks. It stands on `limits`. Begin with `lifecycle.rt`.
+//! Decides which generation of `redproxy serve` serves, which ones drain, when the next one opens, and when a sweep
+//! is due. It stands on `limits`. Begin with `lifecycle.rt`.
 #![tactic(auto)]
 
 mod laws;

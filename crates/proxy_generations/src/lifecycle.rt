@@ -24,11 +24,11 @@ use std::mem;
 /// The task of a generation.
 #[derive(Clone, Copy, Debug, PartialEq, Eq)]
 pub enum Phase {
-    /// It is the newest open one, and accepts sockets.
+    /// The newest open one, which accepts sockets.
     Serving,
     /// It takes in nothing more, and answers what it accepted.
     Draining,
-    /// It is the one in the way, and the parts that wait for hosts are given up: its links are closed.
+    /// The parts that wait for hosts are given up.
     GivingUp,
     /// Its connections are closed at once.
     Stopped,
@@ -37,48 +37,38 @@ pub enum Phase {
 /// A generation to open.
 #[derive(Debug, Drop)]
 pub struct Due<H> {
-    /// Its number. No other one has it, even if it doesn't open.
+    /// Its number, which no other one has.
     pub number: u64,
     /// The handover that it starts from; `None` for the first one.
     pub from: Option<H>,
 }
 
-// The state of the next generation.
 #[derive(Drop)]
 enum NextGeneration<H> {
-    // None was asked for since the last one opened or failed.
     Unasked,
-    // It starts from this handover.
     Wanted(Option<H>),
-    // It is being opened.
     Opening,
 }
 
-/// The generations of one run of `redproxy serve`: the open ones, the one to open, and the task of each.
-///
-/// `H` is the handover from one generation to the next. Moments are milliseconds of one clock.
+/// The generations of one run. `H` is the handover from one to the next. Moments are milliseconds of one clock.
 pub struct Generations<H> {
     interval_ms: u64,
     max_failures: u32,
-    // The number of failures left before the server ends.
     tries_left: u32,
     newest: Option<Open>,
-    // Those before it that have connections.
     older: Older,
-    // The moment since which the newest one is near its marks.
     near_since: Option<u64>,
-    // The moment when a host last answered commands of the one in the way, or when the newest one opened.
+    // When a host last answered the one in the way, or the newest one opened.
     still_since: Option<u64>,
-    // The moment when the newest one opened.
+    // When the newest one opened.
     drains_since: Option<u64>,
     next: NextGeneration<H>,
-    // The number of generations asked for, beside the first; it is the next one's number.
+    // The next one's number.
     asked: u64,
-    // The last sweep known to the newest one when it last handed over.
+    // The newest one's last sweep at its handover.
     handed_sweep: Option<u64>,
 }
 
-// Written out so that a drop is one call: each function that holds one is proved sooner.
 impl<H: Drop> Drop for Generations<H> {
     fn drop(self) {
         let Generations {
@@ -103,8 +93,8 @@ impl<H: Drop> Generations<H> {
     ghost use Rattle.proxy_generations.specs.Older.{first_if_full, numbers_of};
     ghost use Rattle.proxy_generations.specs.GenerationsState.{Settings, Stands, Tells, Gives, EndsServing, IsSweepDue};
 
-    /// No generation is open, and the first one, number 0, is due without a handover. A sweep is due every
-    /// `interval_ms` milliseconds; `max_failures` failures in a row end the server.
+    /// No generation is open, and number 0 is due. A sweep is due every `interval_ms` milliseconds; `max_failures`
+    /// failures in a row end the server.
     pub fn new(interval_ms: u64, max_failures: u32) -> Generations<H>
         ensures { Stands result
             (record { interval_ms = interval_ms; max_failures = max_failures }) [] }
@@ -124,8 +114,7 @@ impl<H: Drop> Generations<H> {
         }
     }
 
-    /// The generation to open, returned once: one is wanted, and of those that drain there are fewer than may be. It is
-    /// being opened until `opened` or `failed`.
+    /// The generation to open, once: one is wanted, and one more may drain.
     pub fn take_due(&mut self) -> Option<Due<H>>
         ensures { Gives result self.old self.new }
     {
@@ -147,7 +136,6 @@ impl<H: Drop> Generations<H> {
         }
     }
 
-    // Whether this is the number of the one being opened.
     fn is_opening(&self, number: u64) -> bool
         ensures { IsTrue result ↔ ((self.now.next ≡ NextGeneration.Opening)
             × (number ≡ self.now.asked)) }
@@ -158,8 +146,8 @@ impl<H: Drop> Generations<H> {
         }
     }
 
-    /// All threads of the generation have come at the moment `now`: it is the newest one from here on, and the one
-    /// before drains. Ignored unless it is the one being opened.
+    /// The generation is the newest one from the moment `now` on, and the one before drains. Ignored unless it is
+    /// being opened.
     pub fn opened(&mut self, number: u64, now: u64)
         ensures { Tells (Opened number now) self.old self.new }
     {
@@ -177,9 +165,8 @@ impl<H: Drop> Generations<H> {
         }
     }
 
-    /// The generation could not be opened. `true`: the server must end, since it was failure `max_failures` in a row,
-    /// or no generation is open. Otherwise the newest one asks again, by `full`. Ignored, and `false`, unless it is the
-    /// one being opened.
+    /// The generation could not be opened. `true`: the server must end. Otherwise the newest one asks again, by
+    /// `full`. Ignored unless it is being opened.
     pub fn failed(&mut self, number: u64) -> bool
         ensures tells { Tells (Failed number) self.old self.new }
         ensures ends { (s : Settings) (es : List (Event H)) → Stands self.old s es
@@ -193,8 +180,7 @@ impl<H: Drop> Generations<H> {
         self.tries_left == 0 || self.newest.is_none()
     }
 
-    // Whether the one in the way may be given up at this moment: there is none, no host has answered it for long enough, or
-    // it has been in the way too long.
+    // None is in the way, or its time is over.
     fn may_be_left(&self, now: u64) -> bool
         ensures { IsTrue result ↔ MayBeLeft self.now now }
     {
@@ -203,12 +189,10 @@ impl<H: Drop> Generations<H> {
             || have_passed(self.drains_since, MAX_DRAINING_MS, now)
     }
 
-    /// The newest generation is near its marks at the moment `now`: the one in the way, if there is one, is given up. Of
-    /// several calls the first moment counts.
+    /// The newest generation is near its marks at the moment `now`: the one in the way is given up.
     ///
-    /// Ignored unless `by` is the newest one. Ignored while hosts answer commands of the one in the way: within
-    /// `STILL_MS` milliseconds of the last answer, or of the moment when the newest one opened. This holds until the
-    /// newest one has been open for `MAX_DRAINING_MS` milliseconds.
+    /// Ignored unless `by` is the newest one. Ignored within `STILL_MS` milliseconds of a host's last answer to the
+    /// one in the way, or of the newest one's opening, until that was `MAX_DRAINING_MS` ago.
     pub fn near(&mut self, by: u64, now: u64)
         ensures { Tells (Near by now) self.old self.new }
     {
@@ -217,7 +201,7 @@ impl<H: Drop> Generations<H> {
         }
     }
 
-    // Whether the next one may be asked for at this moment: none is in the way, or that has been given up long enough.
+    // None is in the way, or it has been given up for long enough.
     fn has_given_up(&self, now: u64) -> bool
         ensures { IsTrue result ↔ HadTime self.now now }
     {
@@ -225,12 +209,10 @@ impl<H: Drop> Generations<H> {
     }
 
     /// The newest generation has reached its marks at the moment `now`, or accepts nothing more: the next one is
-    /// wanted, from this handover or the last one by `renew`. The one in the way, if there is one, stops, and the next one is due once one of those
-    /// that drain has no connections.
+    /// wanted, from this handover, and the one in the way stops.
     ///
-    /// Ignored, and the handover dropped, unless `by` is the newest one and none is wanted or being opened. The same
-    /// happens while one is in the way, unless it has been given up for `GIVING_UP_MS` milliseconds, and once 2^64
-    /// generations were asked for.
+    /// Ignored, and the handover dropped, unless `by` is the newest one and none is wanted or being opened. Ignored
+    /// while the one in the way hasn't been given up for `GIVING_UP_MS` milliseconds, and after 2^64 generations.
     pub fn full(&mut self, by: u64, now: u64, handover: H)
         ensures { Tells (Full by now handover) self.old self.new }
     {
@@ -250,9 +232,7 @@ impl<H: Drop> Generations<H> {
         }
     }
 
-    /// The newest generation hands over anew, while the next one waits to be opened: that starts from this handover.
-    /// `None`: so it is. Otherwise the handover comes back, and nothing changes: `by` isn't the newest one, or the next one
-    /// isn't wanted or is being opened.
+    /// Replaces the handover of the generation that is wanted. Otherwise this one comes back, and nothing changes.
     pub fn renew(&mut self, by: u64, handover: H) -> Option<H>
         ensures tells { Tells (Renewed by handover) self.old self.new }
         ensures taken { (s : Settings) (es : List (Event H)) → Stands self.old s es
@@ -270,7 +250,7 @@ impl<H: Drop> Generations<H> {
         None
     }
 
-    /// A host has answered commands of a draining generation by the moment `now`. Ignored unless it is the one in the way.
+    /// A host has answered commands by the moment `now`. Ignored unless the generation is in the way.
     pub fn progressed(&mut self, number: u64, now: u64)
         ensures { Tells (Progressed number now) self.old self.new }
     {
@@ -279,7 +259,7 @@ impl<H: Drop> Generations<H> {
         }
     }
 
-    /// A draining generation has no connection left. Ignored unless it drains.
+    /// The generation has no connection left. Ignored unless it drains.
     pub fn drained(&mut self, number: u64)
         ensures { Tells (Drained number) self.old self.new }
     {
@@ -288,8 +268,7 @@ impl<H: Drop> Generations<H> {
         }
     }
 
-    /// The task of a generation. One that isn't open yet, or that has drained, is `Stopped`: so a generation asks only
-    /// after `opened`.
+    /// The task of a generation; `Stopped` before it opens and once it has drained.
     pub fn phase(&self, number: u64) -> Phase
         ensures { (s : Settings) (es : List (Event H)) → Stands self.now s es
             → IsPhase result es number }
@@ -310,7 +289,7 @@ impl<H: Drop> Generations<H> {
         }
     }
 
-    /// The number of the newest open generation, `None` before the first one opens.
+    /// The newest open generation's number.
     pub fn newest(&self) -> Option<u64>
         ensures { (s : Settings) (es : List (Event H)) → Stands self.now s es → result ≡ newest es }
     {
@@ -320,7 +299,6 @@ impl<H: Drop> Generations<H> {
         }
     }
 
-    // The last sweep that a generation with connections knows.
     fn last_sweep(&self, number: u64) -> Option<u64>
         ensures { (s : Settings) (es : List (Event H)) → Stands self.now s es
             → SomeIff result (has_connections number es ≡ true) (last_sweep number es) }
@@ -331,7 +309,7 @@ impl<H: Drop> Generations<H> {
         }
     }
 
-    /// The number of the one that drains and that this many others that drain opened before; `None` if there are fewer.
+    /// The number of the draining one at this index, the oldest first.
     pub fn older_at(&self, index: usize) -> Option<u64>
         ensures { (s : Settings) (es : List (Event H)) → Stands self.now s es
             → result ≡ slice_get (draining es) index }
@@ -347,7 +325,7 @@ impl<H: Drop> Generations<H> {
         self.older.len() as u64
     }
 
-    /// Whether the generation drains: it opened before the newest, and has connections.
+    /// Whether the generation drains.
     pub fn drains(&self, number: u64) -> bool
         ensures { (s : Settings) (es : List (Event H)) → Stands self.now s es
             → IsTrue result ↔ Contains (draining es) number }
@@ -355,7 +333,7 @@ impl<H: Drop> Generations<H> {
         self.older.has(number)
     }
 
-    // Whether this one is in the way of the next: it is the oldest of those that drain, and no further one may.
+    // The oldest of those that drain, where no further one may.
     fn is_in_the_way(&self, number: u64) -> bool
         ensures { IsTrue result
             ↔ (first_if_full (numbers_of self.now.older.kept.items) ≡ Some number) }
@@ -366,10 +344,9 @@ impl<H: Drop> Generations<H> {
         }
     }
 
-    /// Whether a sweep of the generation is due at the moment `now`: the interval has passed since the last sweep that
-    /// it knows. That is its own last one, or else the last one that the generation before it knew when its handover
-    /// was taken; for the first generation, the moment when it opened. None is due if the clock went back, or if the
-    /// generation isn't open or has drained.
+    /// Whether a sweep is due at the moment `now`: the interval has passed since the last one that the generation
+    /// knows. At first that is the last one of the generation before it; for the first generation, its opening. None
+    /// is due if the clock went back, or if the generation isn't open or has drained.
     pub fn is_sweep_due(&self, number: u64, now: u64) -> bool
         ensures { (s : Settings) (es : List (Event H)) → Stands self.now s es
             → IsTrue result ↔ IsSweepDue s es number now }
@@ -380,7 +357,7 @@ impl<H: Drop> Generations<H> {
         }
     }
 
-    /// The generation made a sweep at the moment `now`. Ignored where it isn't open, or has drained.
+    /// A sweep was made at the moment `now`. Ignored where the generation isn't open, or has drained.
     pub fn swept(&mut self, number: u64, now: u64)
         ensures { Tells (Swept number now) self.old self.new }
     {
@@ -392,7 +369,6 @@ impl<H: Drop> Generations<H> {
     }
 }
 
-// Whether this many milliseconds have passed since a moment, if there is one.
 fn have_passed(since: Option<u64>, span: u64, now: u64) -> bool
     ensures { IsTrue result ↔ HavePassed since span now }
 {

@@ -1,12 +1,11 @@
-//! The length of a journal at which the next generation opens.
 ghost use Rattle.std.specs.Prelude.{◌≡◌, ◌↔◌, ◌≤◌, ◌*◌, ◌/◌, ◌⊎◌, IsTrue};
 
 /// The length of a journal at which the next generation opens.
 #[derive(Clone, Copy, Debug, PartialEq, Eq)]
 pub struct Marks {
-    /// The journal's steps.
+    /// Steps.
     pub steps: u64,
-    /// The journal's bytes of payload.
+    /// Bytes of payload.
     pub bytes: u64,
 }
 
@@ -17,14 +16,14 @@ impl Marks {
         bytes: 58_720_256,
     };
 
-    /// Whether a journal with this many steps or this many bytes of payload has reached either mark.
+    /// Whether a journal of this length has reached either mark.
     pub fn are_reached(&self, steps: u64, bytes: u64) -> bool
         ensures { IsTrue result ↔ ((self.now.steps ≤ steps) ⊎ (self.now.bytes ≤ bytes)) }
     {
         steps >= self.steps || bytes >= self.bytes
     }
 
-    /// Whether a journal with this many steps or bytes of payload has reached three quarters of either mark, rounded down.
+    /// Whether a journal of this length has reached three quarters of either mark, rounded down.
     pub fn are_near(&self, steps: u64, bytes: u64) -> bool
         ensures { IsTrue result
             ↔ ((self.now.steps * 3 / 4 ≤ steps) ⊎ (self.now.bytes * 3 / 4 ≤ bytes)) }
@@ -33,7 +32,7 @@ impl Marks {
     }
 }
 
-// Three quarters, rounded down.
+// Rounded down.
 fn three_quarters(count: u64) -> u64
     ensures { result ≡ count * 3 / 4 }
 {

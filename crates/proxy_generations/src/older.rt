@@ -1,14 +1,12 @@
-//! The generations that drain, as they are kept.
 ghost use Rattle.std.specs.Prelude.{◌≡◌, ◌↔◌, ◌<◌, [], ◌++◌, not, ◌==◌, length, filter, map, slice_get, Contains, option_to_list, IsTrue, IfSome, IsNone};
 
 use crate::opened::Open;
 use arrayvec::ArrayVec;
 use limits::MAX_GENERATIONS;
 
-/// The most generations that drain at a time.
 pub(crate) const MAX_DRAINING: usize = MAX_GENERATIONS - 1;
 
-/// The generations that opened before the newest one and have connections, the oldest first.
+/// Those before the newest one that have connections, the oldest first.
 #[derive(Drop)]
 pub(crate) struct Older {
     kept: ArrayVec<Open, MAX_DRAINING>,
@@ -17,7 +15,6 @@ pub(crate) struct Older {
 impl Older {
     ghost use Rattle.proxy_generations.specs.Older.{numbers_of, swept_at, first_if_full};
 
-    /// None drains.
     pub(crate) fn new() -> Older
         ensures { result.kept.items ≡ [] }
     {
@@ -26,21 +23,18 @@ impl Older {
         }
     }
 
-    /// Whether one more may drain.
     pub(crate) fn has_room(&self) -> bool
         ensures { IsTrue result ↔ (length self.now.kept.items < MAX_DRAINING) }
     {
         !self.kept.is_full()
     }
 
-    /// How many drain.
     pub(crate) fn len(&self) -> usize
         ensures { result ≡ length self.now.kept.items }
     {
         self.kept.len()
     }
 
-    /// The number of the one that began to drain this many others later than the oldest.
     pub(crate) fn number_at(&self, index: usize) -> Option<u64>
         ensures { result ≡ slice_get (numbers_of self.now.kept.items) index }
     {
@@ -61,7 +55,6 @@ impl Older {
         }
     }
 
-    /// Whether the one with this number drains.
     pub(crate) fn has(&self, number: u64) -> bool
         ensures { IsTrue result ↔ Contains (numbers_of self.now.kept.items) number }
     {
@@ -73,7 +66,6 @@ impl Older {
         false
     }
 
-    /// The last sweep that the one with this number knows.
     pub(crate) fn sweep_of(&self, number: u64) -> Option<u64>
         ensures some { IfSome result
             (λ t. Contains self.now.kept.items (record { number = number; swept = t })) }
@@ -87,7 +79,6 @@ impl Older {
         None
     }
 
-    /// Adds the one that begins to drain, if there is one. Nothing changes where no further one may drain.
     pub(crate) fn add(&mut self, one: Option<Open>)
         ensures { length self.old.kept.items < MAX_DRAINING
             → self.new.kept.items ≡ self.old.kept.items ++ option_to_list one }
@@ -97,7 +88,6 @@ impl Older {
         }
     }
 
-    /// Removes the one with this number.
     pub(crate) fn remove(&mut self, number: u64)
         ensures { self.new.kept.items
             ≡ filter (λ o. not (number == o.number)) self.old.kept.items }
@@ -111,7 +101,6 @@ impl Older {
         self.kept = after;
     }
 
-    /// The one with this number has swept at the moment `now`.
     pub(crate) fn sweep(&mut self, number: u64, now: u64)
         ensures { self.new.kept.items ≡ map (swept_at number now) self.old.kept.items }
     {

@@ -1,4 +1,3 @@
-//! An open generation, as it is kept.
 ghost use Rattle.std.specs.Prelude.{◌≡◌, ◌↔◌, Some, IsTrue, IfSome, IsNone};
 
 /// An open generation: its number, and the last sweep that it knows.
@@ -12,7 +11,6 @@ impl Open {
     ghost use Rattle.proxy_generations.specs.Older.{swept_at};
     ghost use Rattle.proxy_generations.specs.OpenGenerations.{IsNumber};
 
-    /// Whether there is one, with this number.
     pub(crate) fn has_number(kept: Option<Open>, number: u64) -> bool
         ensures { IsTrue result ↔ IsNumber kept number }
     {
@@ -22,7 +20,6 @@ impl Open {
         }
     }
 
-    /// The generation, once the one of this number has swept at the moment `now`.
     pub(crate) fn swept_at(self, number: u64, now: u64) -> Open
         ensures { result ≡ swept_at number now self }
     {
@@ -33,7 +30,6 @@ impl Open {
         }
     }
 
-    /// The last sweep that it knows, if it has this number.
     pub(crate) fn sweep_of(kept: Option<Open>, number: u64) -> Option<u64>
         ensures some { IfSome result
             (λ t. kept ≡ Some (record { number = number; swept = t })) }

@@ -1,17 +1,13 @@
-//! The histogram.
 ghost use Rattle.std.specs.Prelude.{◌≡◌, ◌<◌, ◌+◌, ◌++◌, ◌∷◌, [], ℕ, List, replicate, slice_index};
 ghost use Rattle.proxy_histogram.specs.Values.{IsOf, capped, with_times};
 
 /// The number of bounds.
 pub const BOUNDS: usize = 12;
 
-/// The bounds in milliseconds: Prometheus's usual ones from 1 to 5,000, with 2 in place of 2.5, so that all are whole.
-/// Values above the last one have no bound.
+/// In milliseconds: Prometheus's usual ones, with 2 in place of 2.5, so that all are whole.
 pub const BOUNDS_MS: [u64; BOUNDS] = [1, 2, 5, 10, 25, 50, 100, 250, 500, 1000, 2500, 5000];
 
-/// A histogram of milliseconds.
-///
-/// It takes no memory beside its own 14 numbers. The greatest `u64` stands for any greater number.
+/// A histogram of milliseconds. The greatest `u64` stands for any greater number.
 #[derive(Clone, Copy, Debug, PartialEq, Eq)]
 pub struct Histogram {
     /// The number of values up to each of [`BOUNDS_MS`].
@@ -66,7 +62,6 @@ impl Histogram {
     }
 }
 
-// Adds `times` to each bound that isn't below the value.
 fn recorded(at_most: &[u64; BOUNDS], ms: u64, times: u64) -> [u64; BOUNDS]
     ensures { (i : ℕ) → i < BOUNDS → slice_index result i
         ≡ with_times ms times (slice_index BOUNDS_MS i) (slice_index at_most.now i) }

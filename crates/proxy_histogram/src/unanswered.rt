@@ -1,10 +1,7 @@
-//! The moments when a connection's unanswered commands were accepted.
-
 use crate::histogram::Histogram;
 use std::alloc::Global;
 use std::collections::VecDeque;
 
-// This many commands were accepted at one moment.
 #[derive(Clone, Copy, Drop)]
 struct Run {
     since: u64,
@@ -13,11 +10,11 @@ struct Run {
 
 const NONE: Run = Run { since: 0, count: 0 };
 
-/// The moments, in milliseconds of one clock, when a connection's unanswered commands were accepted. Answers leave in
-/// the order of the commands.
+/// When a connection's unanswered commands were accepted, in milliseconds. Answers leave in the order of the
+/// commands.
 #[derive(Drop)]
 pub struct Unanswered {
-    // The earliest commands, and the later ones in their order; none of these runs is empty.
+    // No run is empty.
     first: Run,
     later: VecDeque<Run>,
 }
@@ -31,7 +28,7 @@ impl Unanswered {
         }
     }
 
-    /// Adds commands accepted at this moment. Without memory for another moment they count as accepted with those before.
+    /// Adds commands accepted at this moment, or, without memory, with those before.
     pub fn accepted(&mut self, now: u64, count: u64) {
         if count == 0 {
             return;
@@ -46,7 +43,6 @@ impl Unanswered {
         }
     }
 
-    // When the latest were accepted.
     fn last_since(&self) -> u64 {
         match self.later.back() {
             Some(last) => last.since,
@@ -54,7 +50,6 @@ impl Unanswered {
         }
     }
 
-    // Adds commands to the latest ones.
     fn join_last(&mut self, count: u64) {
         if let Some(last) = self.later.back_mut() {
             last.count = last.count.saturating_add(count);
@@ -63,7 +58,7 @@ impl Unanswered {
         self.first.count = self.first.count.saturating_add(count);
     }
 
-    /// This many commands were answered at this moment: records the duration of each.
+    /// Records the durations of this many commands, answered at this moment.
     pub fn answered(&mut self, now: u64, count: u64, durations: &mut Histogram) {
         let mut left = count;
         for _ in 0..count {

@@ -1,4 +1,3 @@
-//! A reader that pauses before each read.
 ghost use Rattle.std.specs.Prelude.{◌≡◌, ◌<◌, ◌+◌, ◌-◌, ◌^◌, min, length, true, false};
 ghost use Rattle.proxy_devices.specs.Device.{IsRead, reader_state};
 ghost use Rattle.proxy_local.specs.Announced.{announced, with_pauses};
@@ -7,9 +6,8 @@ use proxy_engines::{IoOutcome, ReadTally, Tally};
 use std::io;
 use std::io::{ErrorKind, Read};
 
-/// A reader that pauses once before each read. So its engine goes idle once all input is answered, before a read that may wait.
-///
-/// Its counts are the inner reader's, with its own pauses.
+/// Pauses once before each read, so that its engine goes idle once all input is answered, before a read that may
+/// wait.
 #[derive(Drop)]
 pub(crate) struct Announced<R> {
     inner: R,
@@ -18,7 +16,6 @@ pub(crate) struct Announced<R> {
 }
 
 impl<R> Announced<R> {
-    /// The first call is a pause.
     pub(crate) fn new(inner: R) -> Announced<R>
         ensures inner { result.inner ≡ inner }
         ensures next { result.is_announced ≡ false }
@@ -31,7 +28,7 @@ impl<R> Announced<R> {
         }
     }
 
-    // Pauses, if a pause is due before the next read.
+    // Only if a pause is due before the next read.
     fn pause(&mut self) -> bool
         ensures inner { self.new.inner ≡ self.old.inner }
         ensures pauses { result ≡ true → (self.old.is_announced ≡ false)

@@ -1,4 +1,3 @@
-//! How a run ends where an engine's call is refused.
 ghost use Rattle.std.specs.Prelude.{◌≡◌};
 ghost use Rattle.proxy_local.specs.Ending.{ending_of, ending_of_refusal};
 
@@ -6,7 +5,6 @@ use proxy_core::Refusal;
 use proxy_engines::{Denied, EngineError};
 use proxy_exit_status::Ending;
 
-/// The ending for an engine's error.
 pub(crate) fn ending_of(error: EngineError) -> Ending
     ensures { result ≡ ending_of error }
 {
@@ -19,7 +17,7 @@ pub(crate) fn ending_of(error: EngineError) -> Ending
     }
 }
 
-// The ending for a turn that the core refused. No arm stands for all others, so that a new refusal gets one of its own.
+// No arm stands for all others, so that a new refusal gets one of its own.
 fn ending_of_refusal(refusal: Refusal) -> Ending
     ensures { result ≡ ending_of_refusal refusal }
 {

@@ -35,22 +35,19 @@ const PASS: u64 = 0;
 // The moment of each event.
 const MOMENT: u64 = 0;
 
-/// The client's writer.
 type Output<W> = Tallied<BufWriter<W>>;
 
-/// The client's engine.
 type Client<R, W> = ClientEngine<Announced<Tallied<R>>, Output<W>>;
 
 /// Serves the one client whose bytes the reader has, and returns the writer, which has the replies.
 ///
 /// Ends Ok after a request that finishes the connection, or at the end of the input. Each read takes at most 16,384
-/// bytes. Its replies are written together: before the next read, once `MAX_BUFFERED` bytes are buffered, and at the end,
+/// bytes. Replies are written together: before the next read, once `MAX_BUFFERED` bytes are buffered, and at the end,
 /// however the run ends.
 ///
-/// Ends with `JournalFull` if the journal takes no further step: 262,144 steps, or 67,108,864 bytes of payload. The
-/// opening, the end of the input and the close are a step each; a command is two, and two more for each part that hosts
-/// answer. Ends with `Socket` if the reader or the writer fails, and after 1,073,741,824 steps of engines; with
-/// `Memory` if memory is refused. (`Spent` is for turns at a gate.) A reader that pauses is read again.
+/// Ends with `JournalFull` if the journal takes no further step: 262,144 steps, or 67,108,864 bytes of payload. Ends
+/// with `Socket` if the reader or the writer fails, and after 1,073,741,824 steps of engines; with `Memory` if memory
+/// is refused. A reader that pauses is read again.
 pub fn local_run<Rt: Wait, R: Read + Drop, W: Write + Drop>(
     rt: &Rt,
     alloc: Global,
@@ -102,7 +99,7 @@ fn open_client<Rt: Wait, T: CoreTurns, R: Read + Drop, W: Write + Drop>(
     }
 }
 
-// Runs the client until it ends, and then writes the buffered bytes in any case. Returns the ending and the writer.
+// Runs the client until it ends; the buffered bytes are written in any case.
 fn run_to_end<
     Rt: Wait,
     R: ReadTally + Drop,
@@ -130,7 +127,6 @@ fn run_to_end<
     Ok((ran, writer))
 }
 
-// Writes all buffered bytes, and returns the writer.
 fn written_out<W: Write + Drop>(output: Output<W>) -> Result<W, Ending>
     ensures ok { IfOk result (λ w. Keeps (writer_contents W.contents output.inner) (W.contents w)) }
     ensures err { IfErr result (λ e. e ≡ Ending.Socket) }
@@ -144,7 +140,7 @@ fn written_out<W: Write + Drop>(output: Output<W>) -> Result<W, Ending>
     Ok(writer)
 }
 
-// Steps the client until it ends. After each step, steps the hosts if they may have something to do.
+// After each step, steps the hosts if they may have something to do.
 fn run_client<
     Rt: Wait,
     R: ReadTally + Drop,
@@ -173,7 +169,6 @@ fn run_client<
     Err(Ending::Socket)
 }
 
-// Whether the newest step is a command with parts for hosts.
 fn asks_hosts(core: &Core) -> bool {
     match core.journal().last() {
         Some(
@@ -186,7 +181,8 @@ fn asks_hosts(core: &Core) -> bool {
     }
 }
 
-// Steps the client once. Then steps the hosts until all are idle, unless the client ended or moved without parts for hosts.
+// Steps the client once. Then steps the hosts until all are idle, unless the client ended or moved without parts for
+// hosts.
 fn step_all<
     Rt: Wait,
     R: ReadTally + Drop,
@@ -221,7 +217,7 @@ fn step_all<
     }
 }
 
-// Steps the client once. If it is idle, everything is answered, and buffered bytes are written.
+// If the client is idle, everything is answered, and buffered bytes are written.
 fn step_client<Rt: Wait, T: CoreTurns, R: ReadTally + Drop, W: WriteTally + Drop>(
     rt: &Rt,
     turns: &mut T,
@@ -247,7 +243,6 @@ fn step_client<Rt: Wait, T: CoreTurns, R: ReadTally + Drop, W: WriteTally + Drop
     }
 }
 
-// Steps the hosts until all are idle.
 fn settle<Rt: Wait, T: CoreTurns, P: ReadTally + Drop, Q: WriteTally + Drop>(
     rt: &Rt,
     turns: &mut T,
@@ -268,7 +263,7 @@ fn settle<Rt: Wait, T: CoreTurns, P: ReadTally + Drop, Q: WriteTally + Drop>(
     Err(Ending::Socket)
 }
 
-// Steps each host once. True: all were idle.
+// True: all were idle.
 fn step_hosts<Rt: Wait, T: CoreTurns, P: ReadTally + Drop, Q: WriteTally + Drop>(
     rt: &Rt,
     turns: &mut T,
@@ -290,7 +285,7 @@ fn step_hosts<Rt: Wait, T: CoreTurns, P: ReadTally + Drop, Q: WriteTally + Drop>
     Ok(are_idle)
 }
 
-// Steps a host once. True: it was idle.
+// True: it was idle.
 fn step_host<Rt: Wait, T: CoreTurns, P: ReadTally + Drop, Q: WriteTally + Drop>(
     rt: &Rt,
     turns: &mut T,
@@ -312,7 +307,6 @@ fn step_host<Rt: Wait, T: CoreTurns, P: ReadTally + Drop, Q: WriteTally + Drop>(
     }
 }
 
-// Takes one of the remaining steps.
 fn spend(left: &mut u32) -> Result<(), Ending>
     ensures ok { OnOk result (left.new + 1 ≡ left.old) }
     ensures err { IfErr result (λ e. (left.old ≡ 0) × (e ≡ Ending.Socket)) }

@@ -13,10 +13,8 @@ use proxy_exit_status::Ending;
 use std::alloc::Global;
 use stub_server::{Stub, StubLink, StubReader, StubWriter};
 
-/// The engine of a host in memory.
 pub(crate) type StubEngine = HostEngine<Tallied<StubReader>, Tallied<StubWriter>>;
 
-// The number of hosts.
 const HOSTS: usize = 3;
 
 // A reply is late after this many milliseconds.
@@ -35,7 +33,6 @@ pub(crate) fn stub_core(alloc: Global) -> Result<Core, Ending>
     }
 }
 
-// The ring of the hosts.
 fn stub_ring(alloc: Global) -> Result<Ring, Ending>
     ensures ring { IfOk result (IsKetamaRing stub_names stub_weights) }
     ensures err { IfErr result (λ e. e ≡ Memory) }
@@ -52,7 +49,6 @@ fn stub_ring(alloc: Global) -> Result<Ring, Ending>
     }
 }
 
-// The name with these bytes.
 fn host_name(alloc: Global, bytes: &[u8]) -> Result<HostName, Ending>
     requires { IsHostName bytes.now }
     ensures name { IfOk result (λ name. name ≡ bytes.now) }
@@ -77,7 +73,6 @@ pub(crate) fn stub_engines(alloc: Global) -> Result<Vec<StubEngine>, Ending>
     Ok(engines)
 }
 
-// The engine of one host, with a link to an empty stub.
 fn stub_engine(alloc: Global, host: usize) -> Result<StubEngine, Ending>
     ensures host { IfOk result (λ e. e.outbox.host ≡ host) }
     ensures err { IfErr result (λ e. e ≡ Memory) }
@@ -90,7 +85,6 @@ fn stub_engine(alloc: Global, host: usize) -> Result<StubEngine, Ending>
     }
 }
 
-// The two ends of a link to an empty stub.
 fn stub_ends(alloc: Global) -> Result<(StubReader, StubWriter), Ending>
     ensures err { IfErr result (λ e. e ≡ Memory) }
 {

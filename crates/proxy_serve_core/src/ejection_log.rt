@@ -1,16 +1,11 @@
-//! Which hosts are ejected, as the lines on standard error have it.
 ghost use Rattle.std.specs.Prelude.{◌≡◌, ◌↔◌, IsTrue, max, replicate, false, true, IfOk};
 ghost use Rattle.proxy_serve_core.specs.EjectionLog.{IsNews, told};
 
 use std::alloc::{AllocError, Global};
 use std::marker::Model;
 
-/// What the log says of each host, over all generations.
-///
-/// Only the newest generation that looked changes it. So of each host lines of its ejection and of its return take
-/// turns, also where it comes or goes while generations change.
-///
-/// Contracts see the number of the newest generation that looked, and of each host whether it is ejected.
+/// What the log says of each host, over all generations. Only the newest one that looked changes it, so that
+/// ejections and returns of a host take turns.
 #[derive(Drop)]
 pub struct EjectionLog {
     newest: u64,
@@ -36,8 +31,8 @@ impl EjectionLog {
         })
     }
 
-    /// Takes in whether a generation has the host ejected. True: that is news, and has to be logged. False: the log has
-    /// it already, a newer generation has looked, or there is no such host.
+    /// Takes in whether a generation has the host ejected. True: that is news to be logged. False: the log has it, a
+    /// newer generation has looked, or there is no such host.
     pub fn is_news(&mut self, number: u64, host: usize, is_out: bool) -> bool
         ensures news { IsTrue result ↔ IsNews self.old number host is_out }
         ensures told { result ≡ true → self.new ≡ told self.old number host is_out }

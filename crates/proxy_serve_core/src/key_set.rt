@@ -1,4 +1,3 @@
-//! A set of keys, such as those of a slab.
 ghost use Rattle.std.specs.Prelude.{◌≡◌, ◌↔◌, ◌<◌, ◌≤◌, ◌+◌, ◌*◌, ℕ, length, max, IsTrue, IfSome, IfNone, OnOk, OnErr};
 ghost use Rattle.std.specs.Bool.{OnTrue, OnFalse};
 ghost use Rattle.proxy_serve_core.specs.KeySet.{AddsKey, AddsKeysBelow, AddsKeysOfWord, DropsKey, Has, HasNone, IsNext, JoinsKeys, SameKeys, capacity_of, whole_words};
@@ -6,7 +5,6 @@ ghost use Rattle.proxy_serve_core.specs.KeySet.{AddsKey, AddsKeysBelow, AddsKeys
 use std::alloc::{AllocError, Global};
 use std::marker::Model;
 
-// The keys of a word.
 const BITS: usize = 64;
 
 /// A set of keys below its capacity, which only `reserve` raises.
@@ -27,7 +25,6 @@ impl Model for KeySet {
 }
 
 impl KeySet {
-    /// No keys, and a capacity of 0.
     pub(crate) fn new(alloc: Global) -> KeySet
         ensures none { HasNone result 0 }
         ensures capacity { capacity_of result ≡ 0 }
@@ -37,7 +34,7 @@ impl KeySet {
         }
     }
 
-    /// Makes room for the keys below this number, in whole words. Without memory nothing changes.
+    /// Makes room in whole words. Without memory nothing changes.
     pub(crate) fn reserve(&mut self, capacity: usize) -> Result<(), AllocError>
         ensures room { OnOk result (capacity_of self.new
             ≡ max (capacity_of self.old) (whole_words capacity)) }
@@ -51,7 +48,7 @@ impl KeySet {
         Ok(())
     }
 
-    /// Puts the key into the set. False: it isn't below the capacity, and nothing changes.
+    /// False: the key is past the capacity, and nothing changes.
     pub(crate) fn insert(&mut self, key: usize) -> bool
         ensures fits { IsTrue result ↔ (key < capacity_of self.old) }
         ensures adds { OnTrue result (AddsKey key self.old self.new) }
@@ -66,7 +63,6 @@ impl KeySet {
         true
     }
 
-    /// Takes the key out of the set.
     pub(crate) fn remove(&mut self, key: usize)
         ensures drops { DropsKey key self.old self.new }
         ensures capacity { capacity_of self.new ≡ capacity_of self.old }
@@ -77,8 +73,7 @@ impl KeySet {
         }
     }
 
-    /// Puts the keys of one word into the set: bit i of `bits` stands for key 64 `index` + i. False: these aren't below the
-    /// capacity, and nothing changes.
+    /// Bit i of `bits` stands for key 64 `index` + i. False: these are past the capacity, and nothing changes.
     pub(crate) fn insert_word(&mut self, index: usize, bits: u64) -> bool
         ensures fits { IsTrue result ↔ (index < length self.old) }
         ensures adds { OnTrue result (AddsKeysOfWord index bits self.old self.new) }
@@ -92,7 +87,7 @@ impl KeySet {
         true
     }
 
-    /// Puts all keys of another set into this one. False: its capacity is greater than this one's, and nothing changes.
+    /// False: the other's capacity is greater; nothing changes.
     pub(crate) fn insert_all_of(&mut self, other: &KeySet) -> bool
         ensures fits { IsTrue result ↔ (capacity_of other.now ≤ capacity_of self.old) }
         ensures joins { OnTrue result (JoinsKeys self.old other.now self.new) }
@@ -106,7 +101,7 @@ impl KeySet {
         true
     }
 
-    /// Puts all keys below this number into the set, as far as they are below its capacity.
+    /// As far as they are below the capacity.
     pub(crate) fn insert_all_below(&mut self, count: usize)
         ensures adds { AddsKeysBelow count self.old self.new }
         ensures capacity { capacity_of self.new ≡ capacity_of self.old }
@@ -116,7 +111,6 @@ impl KeySet {
         }
     }
 
-    /// The least key at or after this number. `None`: the set has none there.
     pub(crate) fn next(&self, from: usize) -> Option<usize>
         ensures found { IfSome result (IsNext self.now from) }
         ensures none { IfNone result (HasNone self.now from) }
@@ -133,7 +127,6 @@ impl KeySet {
     }
 }
 
-// Adds the bits of a row of words to the first words of one that isn't shorter.
 fn join(words: &mut [u64], others: &[u64])
     requires { length others.now ≤ length words.old }
     ensures { JoinsKeys words.old others.now words.new }
@@ -143,7 +136,6 @@ fn join(words: &mut [u64], others: &[u64])
     }
 }
 
-// The least key of the words behind this one.
 fn first_behind(words: &[u64], index: usize) -> Option<usize>
     requires within { index < length words.now }
     requires few { capacity_of words.now ≤ usize.MAX + 1 }

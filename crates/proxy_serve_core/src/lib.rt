@@ -1,6 +1,5 @@
-//! What `redproxy serve` decides without a system call: which worker gets a new socket, which clients a round
-//! looks at, when a host's ejection is logged, when memory is refused for good, what signals ask, which sockets are taken,
-//! and when all is done. It stands on `limits`. Begin with `ready_clients.rt`.
+//! What `redproxy serve` decides without a system call. It stands on `limits`. Begin with `ready_clients.rt`: which
+//! clients a round looks at.
 #![tactic(auto)]
 
 mod ejection_log;

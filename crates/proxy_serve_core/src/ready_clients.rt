@@ -1,4 +1,3 @@
-//! Which clients a worker's round looks at.
 ghost use Rattle.std.specs.Prelude.{◌≡◌, ◌≤◌, OnOk, IfSome, IfNone};
 ghost use Rattle.std.specs.Bool.{OnTrue, OnFalse};
 ghost use Rattle.proxy_serve_core.specs.KeySet.{AddsKeyIfItFits, AddsKeysBelow, AddsWordIfItFits, DropsKey, HasNone, IsNext, JoinsKeys, SameKeys, capacity_of};
@@ -7,7 +6,7 @@ use crate::key_set::KeySet;
 use std::alloc::{AllocError, Global};
 use std::marker::Model;
 
-/// The keys of the clients that a worker's next round looks at, and of those that wait for replies.
+/// Which clients a worker's next round looks at, and which ones wait for replies.
 #[derive(Drop)]
 pub struct ReadyClients {
     ready: KeySet,
@@ -41,7 +40,7 @@ impl ReadyClients {
         }
     }
 
-    /// Makes room for the keys below this number. Where memory is refused no key changes.
+    /// Makes room for the keys below this number. Without memory no key changes.
     pub fn reserve(&mut self, capacity: usize) -> Result<(), AllocError>
         ensures room { OnOk result (capacity ≤ capacity_of self.new.awaiting) }
         ensures ready { SameKeys self.old.ready self.new.ready }
@@ -51,7 +50,7 @@ impl ReadyClients {
         self.awaiting.reserve(capacity)
     }
 
-    /// The next round looks at this client. Ignored if there is no room for its key.
+    /// The next round looks at this client. Ignored without room for its key.
     pub fn make_ready(&mut self, key: usize)
         ensures adds { AddsKeyIfItFits key self.old.ready self.new.ready }
         ensures rest { self.new ≡ record self.old { ready = self.new.ready } }
@@ -59,7 +58,7 @@ impl ReadyClients {
         self.ready.insert(key);
     }
 
-    /// The next round looks at each client with a key below this number, as far as there is room for its key.
+    /// The same for each key below this number, as far as there is room.
     pub fn make_all_ready(&mut self, count: usize)
         ensures adds { AddsKeysBelow count self.old.ready self.new.ready }
         ensures rest { self.new ≡ record self.old { ready = self.new.ready } }
@@ -75,8 +74,7 @@ impl ReadyClients {
         self.ready.remove(key);
     }
 
-    /// The client's round ended. It is ready again where that left something to do, and waits for replies from here on,
-    /// or doesn't. What there is no room for is ignored.
+    /// The client's round ended: whether it is ready again, and whether it waits. Ignored without room.
     pub fn end(&mut self, key: usize, is_ready: bool, awaits: bool)
         ensures ready { OnTrue is_ready (AddsKeyIfItFits key self.old.ready self.new.ready) }
         ensures idle { OnFalse is_ready (self.new.ready ≡ self.old.ready) }
@@ -93,7 +91,7 @@ impl ReadyClients {
         }
     }
 
-    /// The client is gone: it isn't ready, and doesn't wait.
+    /// The client is gone.
     pub fn forget(&mut self, key: usize)
         ensures ready { DropsKey key self.old.ready self.new.ready }
         ensures awaiting { DropsKey key self.old.awaiting self.new.awaiting }
@@ -102,8 +100,7 @@ impl ReadyClients {
         self.end(key, false, false);
     }
 
-    /// The next round looks at the clients of one word of keys: bit i of `bits` stands for key 64 `index` + i. Ignored if
-    /// there is no room for these.
+    /// Makes clients ready: bit i of `bits` stands for key 64 `index` + i. Ignored without room.
     pub fn make_word_ready(&mut self, index: usize, bits: u64)
         ensures adds { AddsWordIfItFits index bits self.old.ready self.new.ready }
         ensures rest { self.new ≡ record self.old { ready = self.new.ready } }
@@ -119,7 +116,7 @@ impl ReadyClients {
         self.ready.insert_all_of(&self.awaiting);
     }
 
-    /// The ready client with the least key at or after this number. `None`: no client is ready there.
+    /// The ready client with the least key at or after this number.
     pub fn next(&self, from: usize) -> Option<usize>
         ensures found { IfSome result (IsNext self.now.ready from) }
         ensures none { IfNone result (HasNone self.now.ready from) }

@@ -1,10 +1,9 @@
-//! Consecutive refusals of memory.
 ghost use Rattle.std.specs.Prelude.{◌≡◌, ◌↔◌, ◌≤◌, ◌+◌, ◌-◌, ◌^◌, min, IsTrue};
 
 use limits::MAX_REFUSALS;
 use std::marker::Model;
 
-/// The number of refusals of memory in a row, to one thing that is tried again.
+/// Refusals of memory in a row, to one thing that is tried again.
 #[derive(Drop)]
 pub struct Refusals {
     in_row: u32,
@@ -26,7 +25,7 @@ impl Refusals {
         Refusals { in_row: 0 }
     }
 
-    /// Counts a refusal. True: these were `MAX_REFUSALS` in a row or more, and the server must end.
+    /// Counts a refusal. True: the server must end, after `MAX_REFUSALS` in a row.
     pub fn refused(&mut self) -> bool
         ensures in_row { self.new ≡ min (self.old + 1) (2 ^ 32 - 1) }
         ensures ends { IsTrue result ↔ (MAX_REFUSALS ≤ self.old + 1) }
@@ -35,7 +34,7 @@ impl Refusals {
         self.in_row >= MAX_REFUSALS
     }
 
-    /// Counts a success: the next refusal is the first in a row.
+    /// Counts a success: the row ends.
     pub fn succeeded(&mut self)
         ensures { self.new ≡ 0 }
     {

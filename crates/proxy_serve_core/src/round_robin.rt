@@ -1,9 +1,8 @@
-//! Assigns new sockets to workers in turn.
 ghost use Rattle.std.specs.Prelude.{◌≡◌, ◌<◌, ◌+◌, ◌%◌};
 
 use std::marker::Model;
 
-/// Round robin over a number of workers.
+/// Assigns new sockets to workers in turn.
 #[derive(Drop)]
 pub struct RoundRobin {
     next: usize,
@@ -34,7 +33,7 @@ impl RoundRobin {
         }
     }
 
-    /// Returns the one whose turn it is. The first one follows the last.
+    /// The one whose turn it is.
     pub fn take(&mut self) -> usize
         ensures turn { result ≡ self.old.next }
         ensures next { self.new.next ≡ (self.old.next + 1) % self.old.count }

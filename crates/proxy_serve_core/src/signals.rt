@@ -1,8 +1,7 @@
-//! Signals that wait for the process, as `/proc/self/status` shows them.
+//! Signals that wait for the process, as `/proc/self/status` shows them: in the line `ShdPnd`, and blocked ones in
+//! `SigBlk`, as hexadecimal numbers in which signal n is bit n - 1.
 //!
-//! A process started with a signal blocked, as by `env --block-signal=TERM`, isn't ended by it: the signal waits.
-//! Waiting signals are in the line `ShdPnd`, blocked ones in the line `SigBlk`, each as a hexadecimal number in which
-//! signal n is bit n - 1.
+//! A signal blocked at the start, as by `env --block-signal=TERM`, waits and doesn't end the process.
 
 const INT: u64 = 1 << 1;
 
@@ -47,7 +46,6 @@ fn number_behind(status: &[u8], name: &[u8]) -> u64 {
     }
 }
 
-// The text behind the first occurrence of `text`.
 fn behind<'a>(status: &'a [u8], text: &[u8]) -> Option<&'a [u8]> {
     for start in 0..status.len() {
         if let Some(rest) = status[start..].strip_prefix(text) {
@@ -57,7 +55,7 @@ fn behind<'a>(status: &'a [u8], text: &[u8]) -> Option<&'a [u8]> {
     None
 }
 
-// The hexadecimal number at the front, at most 16 digits long.
+// At most 16 digits long.
 fn number(digits: &[u8]) -> u64 {
     let mut sum = 0u64;
     for digit in digits.iter().take(16) {

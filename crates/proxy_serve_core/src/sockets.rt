@@ -1,14 +1,11 @@
-//! The clients' sockets: which are accepted, and when the server is done.
 ghost use Rattle.std.specs.Prelude.{◌≡◌, ◌↔◌, IsTrue};
 ghost use Rattle.std.specs.Bool.{OnTrue, OnFalse};
 
 use limits::MAX_SOCKETS;
 use std::marker::Model;
 
-/// The clients' sockets of one run of `redproxy serve`, in all its generations.
-///
-/// A socket is open from `accept` to `let_go`. Its connection is closed once, before that. A socket that goes over to
-/// the next generation stays open, and its connection isn't closed.
+/// The clients' sockets of one run, in all its generations. A socket is open from `accept` to `let_go`, also while it
+/// goes over to the next generation. Its connection is closed once, before `let_go`.
 #[derive(Debug, Drop)]
 pub struct Sockets {
     most: u64,
@@ -45,7 +42,7 @@ impl Sockets {
       AreDone,
     };
 
-    /// No socket has been open. The server is done after `most` closed connections; 0 is never.
+    /// The server is done after `most` closed connections; 0 is never.
     pub fn new(most: u64) -> Sockets
         ensures { result ≡ no_sockets most }
     {
@@ -57,8 +54,7 @@ impl Sockets {
         }
     }
 
-    /// Counts a new socket. `true`: it is accepted and open. `false`: nothing changes, and it is to be closed, since
-    /// `MAX_SOCKETS` are open or none is accepted any more.
+    /// Counts a new socket. `false`: it is to be closed, since `MAX_SOCKETS` are open or none is accepted any more.
     pub fn accept(&mut self) -> bool
         ensures taken { IsTrue result ↔ MayOpen self.old }
         ensures counted { OnTrue result (self.new ≡ one_more_open self.old) }
@@ -78,7 +74,7 @@ impl Sockets {
         self.count = self.count.saturating_sub(1);
     }
 
-    /// Counts a closed connection. At 2^64 - 1 the count stays.
+    /// Counts a closed connection, up to 2^64 - 1.
     pub fn close(&mut self)
         ensures { self.new ≡ one_more_closed self.old }
     {
@@ -92,7 +88,7 @@ impl Sockets {
         self.is_draining = true;
     }
 
-    /// Whether the server is done: `most` connections have closed, or it drains and no socket is open.
+    /// Whether `most` connections have closed, or the server drains and no socket is open.
     pub fn are_done(&self) -> bool
         ensures { IsTrue result ↔ AreDone self.now }
     {

@@ -5,19 +5,15 @@ use proxy_generations::{Generations, Phase};
 use std::alloc::{AllocError, Global};
 use std::sync::atomic::{AtomicU8, AtomicU64, Ordering};
 
-// Stands for no generation.
 const NONE: u64 = u64::MAX;
 
-// A generation answers what it has accepted.
 const DRAINING: u8 = 0;
 
-// It gives up the parts that still wait for hosts.
 const GIVING_UP: u8 = 1;
 
-// It closes its last sockets.
 const STOPPED: u8 = 2;
 
-// The number of a generation that drains, and its task. A generation keeps its slot until it has drained.
+// A generation keeps its slot until it has drained.
 #[derive(Drop)]
 struct Slot {
     number: AtomicU64,
@@ -25,7 +21,6 @@ struct Slot {
 }
 
 impl Slot {
-    // No generation is here.
     fn new() -> Slot {
         Slot {
             number: AtomicU64::new(NONE),
@@ -52,7 +47,6 @@ pub(crate) struct Board {
 }
 
 impl Board {
-    /// A board without an open generation. Refused only for want of memory.
     pub(crate) fn new(alloc: Global) -> Result<Board, AllocError> {
         let mut slots = Vec::new(alloc);
         for _ in 1..MAX_GENERATIONS {
@@ -64,7 +58,7 @@ impl Board {
         })
     }
 
-    /// Publishes what was decided. A generation that sees that it no longer serves finds its task already here.
+    /// A generation that sees that it no longer serves finds its task already here.
     pub(crate) fn show<H: Drop>(&self, generations: &Generations<H>) {
         for slot in self.slots.iter() {
             let number = slot.number();
@@ -81,7 +75,6 @@ impl Board {
         self.newest.store(newest, Ordering::SeqCst);
     }
 
-    // Publishes the task of one that drains, in its slot or in a free one.
     fn show_older(&self, number: u64, phase: Phase) {
         let phase = match phase {
             Phase::GivingUp => GIVING_UP,
@@ -95,7 +88,6 @@ impl Board {
         }
     }
 
-    // The slot with this number.
     fn slot_of(&self, number: u64) -> Option<&Slot> {
         for slot in self.slots.iter() {
             if slot.number() == number {
@@ -105,7 +97,7 @@ impl Board {
         None
     }
 
-    /// The generation's phase. One that isn't open yet is `Draining` here: it has no connection.
+    /// One that isn't open yet is `Draining` here: it has no connection.
     pub(crate) fn phase(&self, number: u64) -> Phase {
         let newest = self.newest.load(Ordering::SeqCst);
         if newest == number {
@@ -124,13 +116,11 @@ impl Board {
         }
     }
 
-    /// Whether the generation is open or was.
     pub(crate) fn has_opened(&self, number: u64) -> bool {
         let newest = self.newest.load(Ordering::SeqCst);
         newest != NONE && newest >= number
     }
 
-    /// Whether the generation is the newest open one or drains.
     pub(crate) fn has_connections(&self, number: u64) -> bool {
         self.newest.load(Ordering::SeqCst) == number || self.slot_of(number).is_some()
     }

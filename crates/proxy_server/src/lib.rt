@@ -1,8 +1,5 @@
-//! What all generations of `serve` share: the sockets that wait for workers, what was decided of each generation, the
-//! numbers of the run, and why it ends.
-//!
-//! `proxy_generations` decides which generation serves, and `proxy_serve_core` which sockets are taken; here locks and wakers
-//! bring that to the threads. It names no engine and is proved safe and no more. It stands on these two, and on `proxy_admin`,
+//! What all generations of `serve` share: here locks and wakers bring to the threads what `proxy_generations` and
+//! `proxy_serve_core` decide. It is proved safe and no more. It stands on these two, and on `proxy_admin`,
 //! `proxy_pages` and `proxy_stats`. Begin with `server.rt`.
 #![tactic(auto)]
 

@@ -1,5 +1,3 @@
-//! Lines on standard error.
-
 /// The severity of a line, as in syslog.
 #[derive(Clone, Copy, Debug, PartialEq, Eq)]
 pub enum Level {
@@ -20,7 +18,7 @@ pub struct Log {
 }
 
 impl Log {
-    /// With `has_levels`, lines begin with their level, as in `<4>`, which systemd's journal removes and records.
+    /// Whether lines begin with their level, as in `<4>`, for systemd's journal.
     pub fn new(has_levels: bool) -> Log {
         Log { has_levels }
     }

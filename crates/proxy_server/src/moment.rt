@@ -1,5 +1,3 @@
-//! The time of day of `serve`.
-
 use std::rt::Clock;
 
 /// The clock's milliseconds; 0 where it can't be read.

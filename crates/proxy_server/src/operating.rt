@@ -1,5 +1,3 @@
-//! The server, as its operator sees it.
-
 use crate::log::Level;
 use crate::moment::now;
 use crate::server::Server;

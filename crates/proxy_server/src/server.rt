@@ -1,5 +1,3 @@
-//! What all threads of `serve` share, in every generation.
-
 use crate::board::Board;
 use crate::log::{Level, Log};
 use crate::stats::Stats;
@@ -28,7 +26,7 @@ pub struct Inherited {
     pub average: u64,
 }
 
-// The new sockets and the carried-over sockets that wait for one worker, and the waker of the worker that takes them now.
+// A worker's waiting sockets, and its present waker.
 #[derive(Drop)]
 struct AcceptQueue<C: Drop> {
     sockets: Mutex<VecDeque<TcpStream>>,
@@ -45,17 +43,16 @@ pub struct Server<C: Drop> {
     is_running: AtomicBool,
     stop: Mutex<Option<Stop>>,
     log: Log,
-    // Which sockets are accepted and when the server is done; and whether it drains, readable without a lock.
+    // Whether it drains is readable without a lock.
     sockets: Mutex<Sockets>,
     is_draining: AtomicBool,
-    // Which generation has which task; the board shows it without a lock.
+    // The board shows these without a lock.
     generations: Mutex<Generations<Inherited>>,
     board: Board,
     stats: Mutex<Stats>,
     ejections: Mutex<EjectionLog>,
 }
 
-// Written out so that a drop is one call: each function that holds one is proved sooner.
 impl<C: Drop> Drop for Server<C> {
     fn drop(self) {
         let Server {
@@ -75,9 +72,7 @@ impl<C: Drop> Drop for Server<C> {
 }
 
 impl<C: Drop> Server<C> {
-    /// A server with a queue for each worker. The first generation is due.
-    ///
-    /// Refused only for want of memory.
+    /// A server with a queue for each worker. The first generation is due. Refused only for want of memory.
     pub fn new(
         alloc: Global,
         config: &Config,
@@ -119,14 +114,13 @@ impl<C: Drop> Server<C> {
         self.log
     }
 
-    // Wakes the worker that takes from this queue now.
     fn wake<R: Wait>(&self, rt: &R, queue: &AcceptQueue<C>) {
         if let Some(waker) = &*queue.waker.lock(rt) {
             let _ = waker.wake();
         }
     }
 
-    /// Counts an accepted socket. False: no more are taken, and it is to be closed.
+    /// Counts an accepted socket. False: it is to be closed.
     pub fn admit<R: Wait>(&self, rt: &R) -> bool {
         self.sockets.lock(rt).accept()
     }
@@ -140,14 +134,14 @@ impl<C: Drop> Server<C> {
         }
     }
 
-    /// Counts a socket that is dropped. The last one ends a draining server.
+    /// Counts a dropped socket. The last one ends a draining server.
     pub fn count_dropped<R: Wait>(&self, rt: &R) {
         let mut sockets = self.sockets.lock(rt);
         sockets.let_go();
         self.end_if_done(sockets);
     }
 
-    /// Counts a closed connection; ends the server after `connections` of them, as its options say.
+    /// Counts a closed connection. The server ends after `connections` of them.
     pub fn count_closed<R: Wait>(&self, rt: &R) {
         let mut sockets = self.sockets.lock(rt);
         sockets.close();
@@ -160,8 +154,7 @@ impl<C: Drop> Server<C> {
         self.count_dropped(rt);
     }
 
-    /// Accepts no further socket, and ends all inputs behind what has come. The last socket then ends the server. A
-    /// second call is ignored.
+    /// Accepts no further socket, and ends all inputs behind what has come. The last socket then ends the server.
     pub fn drain<R: Wait + Eprint>(&self, rt: &R) {
         if self.is_draining.swap(true, Ordering::SeqCst) {
             return;
@@ -175,7 +168,6 @@ impl<C: Drop> Server<C> {
         self.wake_all(rt);
     }
 
-    // Wakes all workers, and the thread that accepts.
     fn wake_all<R: Wait>(&self, rt: &R) {
         for queue in self.queues.iter() {
             self.wake(rt, queue);
@@ -183,7 +175,7 @@ impl<C: Drop> Server<C> {
         let _ = self.waker.wake();
     }
 
-    /// Whether no further socket is accepted, and inputs end behind what has come.
+    /// Whether the server drains.
     pub fn is_draining(&self) -> bool {
         self.is_draining.load(Ordering::SeqCst)
     }
@@ -193,7 +185,7 @@ impl<C: Drop> Server<C> {
         self.halt();
     }
 
-    /// Queues a socket for a worker and wakes it. Without memory the socket is closed.
+    /// Queues a socket and wakes its worker. Without memory the socket is closed.
     pub fn push<R: Wait>(&self, rt: &R, index: usize, stream: TcpStream) {
         let Some(queue) = self.queues.get(index) else {
             return self.count_dropped(rt);
@@ -214,15 +206,14 @@ impl<C: Drop> Server<C> {
         }
     }
 
-    /// Takes the socket that waits longest in a worker's queue.
+    /// Takes the socket that waits longest.
     pub fn pop<R: Wait>(&self, rt: &R, index: usize) -> Option<TcpStream> {
         self.queues.get(index)?.sockets.lock(rt).pop_front()
     }
 
-    /// Reserves memory in the queue for one more carried-over socket. False: there is none.
+    /// Reserves memory for one more carried-over socket. False: there is none.
     ///
-    /// The room stays: for each queue one worker of each generation puts such sockets in or back, one at a time, and each
-    /// reserves for all.
+    /// The room stays: one worker of each generation puts such sockets in, one at a time, and each reserves for all.
     pub fn reserve_to_carry<R: Wait>(&self, rt: &R, index: usize) -> bool {
         match self.queues.get(index) {
             Some(queue) => queue.carried.lock(rt).reserve(MAX_GENERATIONS).is_ok(),
@@ -230,7 +221,7 @@ impl<C: Drop> Server<C> {
         }
     }
 
-    /// Queues a carried-over socket, and wakes the worker that takes it. Without memory the socket is closed and counted.
+    /// Queues a carried-over socket, and wakes its worker. Without memory the socket is closed and counted.
     pub fn carry<R: Wait>(&self, rt: &R, index: usize, carried: C) {
         let Some(queue) = self.queues.get(index) else {
             return self.count_closed_and_dropped(rt);
@@ -241,7 +232,7 @@ impl<C: Drop> Server<C> {
         self.wake(rt, queue);
     }
 
-    /// Puts a carried-over socket that can't be opened yet back at the front. Without memory it is closed and counted.
+    /// Puts a carried-over socket back at the front. Without memory it is closed and counted.
     pub fn carry_back<R: Wait>(&self, rt: &R, index: usize, carried: C) {
         let Some(queue) = self.queues.get(index) else {
             return self.count_closed_and_dropped(rt);
@@ -251,7 +242,7 @@ impl<C: Drop> Server<C> {
         }
     }
 
-    /// Takes the carried-over socket that waits longest in a worker's queue.
+    /// Takes the carried-over socket that waits longest.
     pub fn take_carried<R: Wait>(&self, rt: &R, index: usize) -> Option<C> {
         self.queues.get(index)?.carried.lock(rt).pop_front()
     }
@@ -261,7 +252,7 @@ impl<C: Drop> Server<C> {
         self.is_running.load(Ordering::SeqCst)
     }
 
-    // Stops the server. False: it was stopped before.
+    // False: it was stopped before.
     fn halt(&self) -> bool {
         let did_run = self.is_running.swap(false, Ordering::SeqCst);
         let _ = self.waker.wake();
@@ -281,7 +272,7 @@ impl<C: Drop> Server<C> {
         *self.stop.lock(rt)
     }
 
-    /// The generation's phase, as `Board::phase` has it; `Stopped` once the server ends.
+    /// The generation's phase; `Stopped` once the server ends.
     pub fn phase(&self, number: u64) -> Phase {
         if self.runs() {
             self.board.phase(number)
@@ -300,7 +291,7 @@ impl<C: Drop> Server<C> {
         self.board.has_connections(number)
     }
 
-    // Publishes what was decided, and wakes the thread that opens a generation that is due.
+    // Wakes the thread that opens a generation that is due.
     fn publish(&self, generations: MutexGuard<'_, Generations<Inherited>>) {
         self.board.show(&generations);
         drop(generations);
@@ -312,7 +303,7 @@ impl<C: Drop> Server<C> {
         self.generations.lock(rt).take_due()
     }
 
-    /// The generation opens at this moment: new sockets come to it, and the wakers wake its workers.
+    /// The generation opens at this moment, and the wakers wake its workers.
     pub fn open<R: Wait>(&self, rt: &R, number: u64, now: u64, wakers: Vec<Waker>) {
         let mut generations = self.generations.lock(rt);
         generations.opened(number, now);
@@ -332,21 +323,19 @@ impl<C: Drop> Server<C> {
         }
     }
 
-    /// Hosts have answered commands of a draining generation by this moment.
+    /// As [`Generations::progressed`].
     pub fn progressed<R: Wait>(&self, rt: &R, number: u64, now: u64) {
         self.generations.lock(rt).progressed(number, now);
     }
 
-    /// The newest generation is at three quarters of its marks at this moment.
+    /// As [`Generations::near`].
     pub fn near<R: Wait>(&self, rt: &R, number: u64, now: u64) {
         let mut generations = self.generations.lock(rt);
         generations.near(number, now);
         self.board.show(&generations);
     }
 
-    /// The newest generation has reached its marks at this moment, or takes in nothing more. The next one starts from
-    /// this state, once one in the way has had its time. While it waits to be opened, it starts from the state of the last
-    /// call.
+    /// As [`Generations::full`]. The next one starts from the state of the last call.
     pub fn full<R: Wait>(&self, rt: &R, number: u64, now: u64, from: Inherited) {
         let mut generations = self.generations.lock(rt);
         if let Some(from) = generations.renew(number, from) {
@@ -355,19 +344,19 @@ impl<C: Drop> Server<C> {
         self.publish(generations);
     }
 
-    /// A draining generation has no connection left.
+    /// As [`Generations::drained`].
     pub fn drained<R: Wait>(&self, rt: &R, number: u64) {
         let mut generations = self.generations.lock(rt);
         generations.drained(number);
         self.publish(generations);
     }
 
-    /// Whether the generation has to sweep at this moment.
+    /// As [`Generations::is_sweep_due`].
     pub fn is_sweep_due<R: Wait>(&self, rt: &R, number: u64, now: u64) -> bool {
         self.generations.lock(rt).is_sweep_due(number, now)
     }
 
-    /// The generation made a sweep at this moment.
+    /// As [`Generations::swept`].
     pub fn swept<R: Wait>(&self, rt: &R, number: u64, now: u64) {
         self.generations.lock(rt).swept(number, now);
     }
@@ -382,7 +371,7 @@ impl<C: Drop> Server<C> {
         self.ejections.lock(rt)
     }
 
-    /// Records that a generation is gone, with its counts and steps.
+    /// A generation is gone, with these counts and steps.
     pub fn gone<R: Wait>(&self, rt: &R, number: u64, counts: &Counts, steps: u64) {
         self.stats.lock(rt).gone(number, counts, steps);
     }
@@ -392,7 +381,7 @@ impl<C: Drop> Server<C> {
         self.stats.lock(rt).add_durations(durations);
     }
 
-    /// The counts of all generations; of living ones by their last sight.
+    /// The counts of all generations.
     pub fn counts<R: Wait>(&self, rt: &R) -> Counts {
         self.stats.lock(rt).counts()
     }

@@ -1,5 +1,3 @@
-//! The counts of a run: of generations that are gone, and of living ones by their last sight.
-
 use limits::{MAX_GENERATIONS, MAX_HOSTS};
 use proxy_generations::Generations;
 use proxy_histogram::Histogram;
@@ -7,10 +5,9 @@ use proxy_pages::Look;
 use proxy_stats::{Counts, HostLoad, Load, Sight};
 use std::alloc::{AllocError, Global};
 
-// The most generations with a journal at a time: with connections, closing its gate, or opening.
+// Generations with connections, those closing their gates, and one that opens.
 const MAX_LIVING: usize = MAX_GENERATIONS + 2;
 
-// The last sight of a generation that has a journal.
 #[derive(Clone, Copy, Drop)]
 struct Living {
     number: u64,
@@ -18,21 +15,17 @@ struct Living {
     look: Look,
 }
 
-/// The counts of a run.
 #[derive(Drop)]
 pub(crate) struct Stats {
-    // The number of generations opened.
     generations: u64,
-    // The counts and steps of generations that are gone.
+    // Of generations that are gone.
     past: Counts,
     past_steps: u64,
-    // Living generations, with room for `MAX_LIVING`.
     living: Vec<Living>,
     durations: Histogram,
 }
 
 impl Stats {
-    /// Nothing has happened. Refused only for want of memory.
     pub(crate) fn new(alloc: Global) -> Result<Stats, AllocError> {
         Ok(Stats {
             generations: 0,
@@ -43,12 +36,10 @@ impl Stats {
         })
     }
 
-    /// Counts a generation that opens.
     pub(crate) fn opened(&mut self) {
         self.generations = self.generations.saturating_add(1);
     }
 
-    /// Records the sight of a living generation.
     pub(crate) fn looked(&mut self, number: u64, sight: &Sight) {
         let look = Look {
             steps: sight.handover.steps(),
@@ -70,19 +61,16 @@ impl Stats {
         let _ = self.living.push(seen);
     }
 
-    /// Records that a generation is gone, with its counts and steps.
     pub(crate) fn gone(&mut self, number: u64, counts: &Counts, steps: u64) {
         self.living.retain(|living| living.number != number);
         self.past = self.past.plus(counts);
         self.past_steps = self.past_steps.saturating_add(steps);
     }
 
-    /// Adds the durations of commands.
     pub(crate) fn add_durations(&mut self, durations: &Histogram) {
         self.durations = self.durations.plus(durations);
     }
 
-    /// The number of generations opened.
     pub(crate) fn generations(&self) -> u64 {
         self.generations
     }
@@ -99,12 +87,10 @@ impl Stats {
         steps
     }
 
-    /// The durations of commands.
     pub(crate) fn durations(&self) -> &Histogram {
         &self.durations
     }
 
-    /// The counts of all generations.
     pub(crate) fn counts(&self) -> Counts {
         let mut counts = self.past;
         for living in &self.living {
@@ -113,7 +99,6 @@ impl Stats {
         counts
     }
 
-    /// The last sight of a generation, if it lives.
     pub(crate) fn look(&self, number: Option<u64>) -> Look {
         for living in &self.living {
             if Some(living.number) == number {
@@ -123,7 +108,6 @@ impl Stats {
         Look::NONE
     }
 
-    /// The last sights of all generations that drain, added up.
     pub(crate) fn draining<H: Drop>(&self, generations: &Generations<H>) -> Look {
         let mut look = Look::NONE;
         for living in &self.living {
@@ -135,7 +119,6 @@ impl Stats {
     }
 }
 
-// Two sights, added up.
 fn both(one: &Look, other: &Look) -> Look {
     let mut load = Load {
         connections: one.load.connections.saturating_add(other.load.connections),

@@ -1,5 +1,3 @@
-//! Why the server ended before it was done.
-
 use proxy_admin::OpenError;
 use proxy_exit_status::Ending;
 use std::alloc::{AllocError, AllocFailed};
@@ -12,19 +10,19 @@ use std::net::SocketAddr;
 pub struct Failure {
     /// The action that failed, as `cannot listen on`.
     pub what: &'static str,
-    /// Its address; `None` if it has none.
+    /// Its address, if it has one.
     pub address: Option<SocketAddr>,
     /// The system's error.
     pub error: Error,
 }
 
-/// Why the server ended before it was done. Its text goes to standard error: that of its ending, and behind it what
-/// failed, as in `socket: cannot listen on 127.0.0.1:6379: Address already in use (os error 98)`.
+/// Why the server ended before it was done. Its text is as in `socket: cannot listen on 127.0.0.1:6379: Address
+/// already in use (os error 98)`.
 #[derive(Clone, Copy, Drop)]
 pub struct Stop {
     /// The program's ending.
     pub ending: Ending,
-    /// What failed; `None` if the ending says all.
+    /// What failed, unless the ending says all.
     pub failure: Option<Failure>,
 }
 

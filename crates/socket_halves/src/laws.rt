@@ -1,4 +1,4 @@
-//! The limit of buffered bytes and two laws of bytes, as contracts of functions that do nothing.
+//! Laws, each the contract of a function that does nothing.
 ghost use Rattle.std.specs.Prelude.{◌≡◌};
 ghost use Rattle.socket_halves.specs.ReadEnd.{DeliveredIsReceived};
 ghost use Rattle.socket_halves.specs.WriteBuffer.{AcceptedGoesOut};

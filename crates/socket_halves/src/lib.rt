@@ -1,8 +1,5 @@
 //! The two halves of a socket, for an engine: one reads, the other gathers what is to be written into large pieces.
-//!
-//! A half asks its socket only when there may be bytes, or room for some. Contracts say which bytes came and went, for
-//! any reader and writer. It stands on `limits`, and on `proxy_devices` for counts and logs of bytes. Begin with
-//! `socket_reader.rt`, over `read_end.rt`; then `socket_writer.rt`, over `write_buffer.rt`.
+//! It stands on `limits` and `proxy_devices`. Begin with `socket_reader.rt`, then `socket_writer.rt`.
 #![tactic(auto)]
 
 mod laws;

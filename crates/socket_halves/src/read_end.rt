@@ -1,4 +1,3 @@
-//! The reading end of a socket: it is asked only when there may be bytes, and its input can be ended.
 ghost use Rattle.std.specs.Prelude.{◌≡◌, ◌≢◌, ◌⊎◌, true, false, ◌++◌, length, take, min, ◌-◌, ◌^◌, IfOk, IfErr, OnErr, IsErrAnd, Some, None, Ok};
 ghost use Rattle.std.specs.Io.{ReadsAtMost};
 ghost use Rattle.std.specs.Io.KnownBytes.{IsAtEnd};
@@ -28,21 +27,15 @@ pub enum Discarded {
 }
 
 /// What is known of a reader that a poll watches. The reader itself comes with each call.
-///
-/// Contracts see all bytes that the reader delivered and all that were delivered to the caller.
 #[derive(Drop)]
 pub struct ReadEnd {
     is_readable: bool,
     // The peer sends nothing more: the input ends behind the unread bytes.
     is_closed: bool,
-    // The number of bytes read.
     count: u64,
-    // The number of bytes still to read before the input ends, if it is to end behind what has
-    // come.
+    // Bytes still to read before the input ends, if it is to end behind what has come.
     left: Option<u64>,
-    // The bytes that the reader delivered, for proofs.
     received: ByteLog,
-    // The bytes that the caller was delivered, for proofs.
     delivered: ByteLog,
 }
 
@@ -91,7 +84,7 @@ impl ReadEnd {
         self.is_readable = true;
     }
 
-    /// The peer sends nothing more: from here on a short read doesn't say that all was read.
+    /// The peer sends nothing more, so that a short read doesn't say that all was read.
     pub fn set_closed(&mut self)
         ensures { self.new ≡ record self.old { is_closed = true } }
     {
@@ -124,8 +117,8 @@ impl ReadEnd {
         self.is_readable
     }
 
-    /// Reads once, if the reader may have bytes, and returns `WouldBlock` if it may not. Once the input is to end, a pause
-    /// is its end; then, or once `MAX_LAST` bytes were delivered, it returns `Ok(0)` and asks the reader no more.
+    /// Reads once, or returns `WouldBlock` if the reader may have no bytes. Once the input is to end, a pause is its
+    /// end; then, or once `MAX_LAST` bytes were delivered, it returns `Ok(0)` and asks the reader no more.
     pub fn read<R: Read>(&mut self, reader: &mut R, buffer: &mut [u8]) -> io::Result<usize>
         ensures bound { ReadsAtMost result buffer.new }
         ensures reads { ReadsEnd self.old self.new (R.remaining reader.old)
@@ -142,7 +135,6 @@ impl ReadEnd {
         delivered
     }
 
-    // Reads once, unless the reader has nothing.
     fn receive<R: Read>(&mut self, reader: &mut R, buffer: &mut [u8]) -> io::Result<usize>
         ensures bound { ReadsAtMost result buffer.new }
         ensures receives { Receives self.old self.new (R.remaining reader.old)
@@ -158,7 +150,7 @@ impl ReadEnd {
         }
     }
 
-    // Reads once. A short read has taken all that there was; the poll reports later bytes.
+    // A short read has taken all that there was; the poll reports later bytes.
     fn read_once<R: Read>(&mut self, reader: &mut R, buffer: &mut [u8]) -> io::Result<usize>
         ensures bound { ReadsAtMost result buffer.new }
         ensures receives { Receives self.old self.new (R.remaining reader.old)
@@ -182,7 +174,7 @@ impl ReadEnd {
         }
     }
 
-    // Where the input is to end behind what has come, treats a pause as its end.
+    // Only where the input is to end behind what has come.
     fn end_where_it_pauses(&mut self, received: io::Result<usize>) -> io::Result<usize>
         requires { IfErr received
             (λ e. error_kind e ≡ ErrorKind.WouldBlock → self.old.is_readable ≡ false) }
@@ -209,7 +201,6 @@ impl ReadEnd {
         }
     }
 
-    // Logs what the caller is delivered.
     fn note_delivered(&mut self, delivered: &io::Result<usize>, buffer: &[u8])
         ensures ok { IfOk delivered.now (λ n. self.new
             ≡ record self.old { delivered = self.old.delivered ++ take n buffer.now }) }

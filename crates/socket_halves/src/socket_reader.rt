@@ -1,4 +1,3 @@
-//! The reading half of a socket, which tells an engine what the socket gave.
 ghost use Rattle.std.specs.Prelude.{◌≡◌, ◌≢◌, ◌<◌, ◌-◌, ◌^◌, true, false, length, min, Some, None};
 ghost use Rattle.std.specs.Io.{ReadsAtMost};
 ghost use Rattle.std.specs.Io.KnownBytes.{ReadConsumes};
@@ -13,10 +12,8 @@ use std::io;
 use std::io::{ErrorKind, Read};
 use std::marker::Model;
 
-/// The reading half of a socket, for an engine.
-///
-/// It asks the socket only when there may be bytes, and counts reads that failed or paused. What it has told its engine
-/// is what the socket gave, all of it; once input was thrown away each read fails.
+/// The reading half of a socket, for an engine. It asks the socket only when there may be bytes, and counts reads
+/// that failed or paused.
 pub struct SocketReader<S: Read> {
     stream: S,
     end: ReadEnd,
@@ -25,7 +22,6 @@ pub struct SocketReader<S: Read> {
     counter: Counter,
 }
 
-// Written out so that a drop is one call: each function that holds one is proved sooner.
 impl<S: Read + Drop> Drop for SocketReader<S> {
     fn drop(self) {
         let SocketReader {
@@ -68,7 +64,7 @@ impl<S: Read> SocketReader<S> {
         self.end.set_readable();
     }
 
-    /// The peer sends nothing more: from here on a short read doesn't say that all was read.
+    /// The peer sends nothing more.
     pub fn set_closed(&mut self)
         ensures { self.new
             ≡ record self.old { end = record self.old.end { is_closed = true } } }
@@ -76,7 +72,7 @@ impl<S: Read> SocketReader<S> {
         self.end.set_closed();
     }
 
-    /// Ends the input behind what has come, or after `MAX_LAST` bytes at the latest.
+    /// Ends the input, as [`ReadEnd::end_input`] does.
     pub fn end_input(&mut self)
         ensures first { self.old.end.left ≡ None → self.new ≡ record self.old {
           end = record self.old.end { left = Some MAX_LAST; is_readable = true };
@@ -111,7 +107,7 @@ impl<S: Read> SocketReader<S> {
         self.end.may_read()
     }
 
-    /// Reads and discards what has come, by at most 64 reads of 16,384 bytes; each later read fails.
+    /// Discards what has come, as [`ReadEnd::throw_away`] does; each later read fails.
     pub fn throw_away(&mut self) -> Discarded
         ensures discards { Discards self.old.end self.new.end None None }
         ensures paused { result ≡ Discarded.Emptied → self.new.end.is_readable ≡ false }
@@ -122,7 +118,7 @@ impl<S: Read> SocketReader<S> {
         self.end.throw_away(&mut self.stream)
     }
 
-    // Reads once, unless it is broken off. It isn't counted.
+    // Not counted.
     fn ask(&mut self, buffer: &mut [u8]) -> io::Result<usize>
         ensures bound { ReadsAtMost result buffer.new }
         ensures reads { ReadsHalf self.old self.new (length buffer.old) result buffer.new }
@@ -150,8 +146,7 @@ impl<S: Read> Tally for SocketReader<S> {
 impl<S: Read> Read for SocketReader<S> {
     ghost remaining = { λ _. None };
 
-    /// Reads once, if the socket may have bytes, and counts the result. It returns `WouldBlock` if the socket may have
-    /// none, and `BrokenPipe` once it is broken off.
+    /// Reads once. `WouldBlock`: the socket may have no bytes. `BrokenPipe`: it is broken off.
     fn read(&mut self, buffer: &mut [u8]) -> io::Result<usize>
         ensures bound { ReadsAtMost result buffer.new }
         ensures bytes { ReadConsumes None None result buffer.new }
@@ -171,7 +166,7 @@ impl<S: Read> Read for SocketReader<S> {
 impl<S: Read> ReadTally for SocketReader<S> {
     ghost told = { λ r. r.end.delivered };
 
-    /// Reads once, if the socket may have bytes; pauses if it may have none, and fails once it is broken off.
+    /// The same, as an outcome.
     fn read_told(&mut self, buffer: &mut [u8]) -> IoOutcome
         requires room { 0 < length buffer.old }
         ensures told { IsRead (engine_reader self.old) (engine_reader self.new)

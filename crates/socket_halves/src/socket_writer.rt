@@ -1,4 +1,3 @@
-//! The writing half of a socket, which takes what an engine gives and writes it in large pieces.
 ghost use Rattle.std.specs.Prelude.{◌≡◌, ◌≢◌, ◌<◌, ◌==◌, ◌||◌, ◌↔◌, not, true, false, [], length, IfOk, IfErr, IsTrue, None};
 ghost use Rattle.std.specs.Io.{WritesAtMost};
 ghost use Rattle.std.specs.Io.KnownBytes.{Keeps, WriteAppends};
@@ -16,7 +15,7 @@ use std::marker::Model;
 
 /// The writing half of a socket, for an engine.
 ///
-/// What it takes from its engine is buffered, and goes out in order. It counts writes that failed or paused.
+/// What it takes is buffered, and goes out in order. It counts writes that failed or paused.
 pub struct SocketWriter<S: Write> {
     output: WriteBuffer<S>,
     // The last write took less than it was given.
@@ -26,7 +25,6 @@ pub struct SocketWriter<S: Write> {
     counter: Counter,
 }
 
-// Written out so that a drop is one call: each function that holds one is proved sooner.
 impl<S: Write + Drop> Drop for SocketWriter<S> {
     fn drop(self) {
         let SocketWriter {
@@ -51,7 +49,6 @@ impl<S: Write> Model for SocketWriter<S> {
     } };
 }
 
-// Whether a write took less than it was given, for now.
 fn is_short(written: &io::Result<usize>, count: usize) -> bool
     ensures ok { IfOk written.now (λ n. IsTrue result ↔ (n < count)) }
     ensures err { IfErr written.now
@@ -76,7 +73,7 @@ impl<S: Write> SocketWriter<S> {
         }
     }
 
-    /// The socket may take bytes again, as the poll reports.
+    /// The socket may take bytes again.
     pub fn set_writable(&mut self)
         ensures { self.new ≡ record self.old {
           output = record self.old.output { is_writable = true };
@@ -109,7 +106,7 @@ impl<S: Write> SocketWriter<S> {
         !self.output.is_empty()
     }
 
-    /// Whether bytes are buffered, or the rest of a text that the socket took in part waits.
+    /// Whether bytes are buffered, or the rest of a text waits.
     pub fn is_behind(&self) -> bool
         ensures { result ≡ (self.now.is_short
             || not (length self.now.output.buffered == 0)) }
@@ -117,15 +114,14 @@ impl<S: Write> SocketWriter<S> {
         self.is_short || self.has_buffered()
     }
 
-    /// Whether the socket may take buffered bytes, or the rest of a text that it took in part.
+    /// Whether the socket may take such bytes.
     pub fn may_write(&self) -> bool
         ensures { result ≡ (self.now.is_writable_again || may_write self.now.output) }
     {
         self.is_writable_again || self.output.may_write()
     }
 
-    /// Lends a buffer, in which bytes are buffered from here on, unless some are already. Its old content is dropped.
-    /// What stands in its place is empty.
+    /// Lends a buffer, as [`WriteBuffer::lend_buffer`] does.
     pub fn lend_buffer(&mut self, buffer: &mut Vec<u8>)
         ensures same { self.new ≡ self.old }
         ensures accepted { accepted self.new.output ≡ accepted self.old.output }
@@ -135,9 +131,7 @@ impl<S: Write> SocketWriter<S> {
         self.output.lend_buffer(buffer);
     }
 
-    /// Writes buffered bytes as far as the socket takes them. Afterwards nothing is buffered, or the socket takes no
-    /// more until `set_writable`, or a write has failed. The buffer is returned once all is taken, and is empty. After a
-    /// failed write nothing is written.
+    /// Writes buffered bytes, as [`WriteBuffer::write_out`] does.
     pub fn write_out(&mut self, buffer: &mut Vec<u8>)
         ensures writes { WritesOut self.old.output self.new.output }
         ensures accepted { accepted self.new.output ≡ accepted self.old.output }
@@ -151,7 +145,7 @@ impl<S: Write> SocketWriter<S> {
         self.output.write_out(buffer);
     }
 
-    // Takes these bytes as far as there is room. It isn't counted.
+    // Not counted.
     fn accept(&mut self, bytes: &[u8]) -> io::Result<usize>
         ensures bound { WritesAtMost result bytes.now }
         ensures writes { WritesHalf self.old self.new bytes.now result }
@@ -211,7 +205,7 @@ impl<S: Write> Write for SocketWriter<S> {
 impl<S: Write> WriteTally for SocketWriter<S> {
     ghost taken = { λ w. accepted w.output };
 
-    /// Takes these bytes as far as there is room.
+    /// As `write`, with its outcome.
     fn write_told(&mut self, bytes: &[u8]) -> IoOutcome
         requires some { bytes.now ≢ [] }
         ensures told { IsWritten (engine_writer self.old) (engine_writer self.new)
@@ -228,7 +222,7 @@ impl<S: Write> WriteTally for SocketWriter<S> {
         }
     }
 
-    /// Does nothing: `write_out` writes the buffered bytes.
+    /// Does nothing.
     fn flush_told(&mut self) -> io::Result<()>
         ensures none { TakesNone (engine_writer self.old) (engine_writer self.new) }
         ensures counts { self.new.counts ≡ self.old.counts }

@@ -1,4 +1,3 @@
-//! A writer with a buffer, so that it writes large pieces.
 ghost use Rattle.std.specs.Prelude.{◌≡◌, ◌≢◌, ◌≤◌, ◌==◌, true, false, [], ◌++◌, length, IfErr, OnOk, OnErr};
 ghost use Rattle.std.specs.Io.{WritesAtMost};
 ghost use Rattle.std.specs.Io.KnownBytes.{WriteAppends};
@@ -17,21 +16,16 @@ const MAX_INTERRUPTIONS: u32 = 1_000;
 
 /// A writer, and the bytes buffered for it.
 ///
-/// An interrupted write is made again; 1,000 interruptions in a row are a failed write. A write that takes nothing has
+/// An interrupted write is made again; 1,000 interruptions in a row are a failed write. One that takes nothing has
 /// failed too. After one that takes less than it was given, the writer takes no more for now.
-///
-/// Contracts see the writer's bytes, as far as it reports them, all that it took since the buffer was made, the buffered
-/// bytes, whether the writer may take more, and whether a write failed.
 #[derive(Drop)]
 pub struct WriteBuffer<W: Write> {
     alloc: Global,
     writer: W,
-    // The bytes that the writer took, for proofs.
     taken: ByteLog,
     bytes: Vec<u8>,
-    // The number of bytes in front that are written.
+    // Bytes in front that are written.
     written: usize,
-    // Whether the writer may take more.
     is_writable: bool,
     is_broken: bool,
 }
@@ -75,7 +69,7 @@ fn is_interrupted(told: &io::Result<usize>) -> bool
     }
 }
 
-// Writes once, again where it is interrupted.
+// Writes once; again where it is interrupted.
 fn write_once<W: Write>(writer: &mut W, bytes: &[u8]) -> io::Result<usize>
     ensures bound { WritesAtMost result bytes.now }
     ensures bytes { WriteAppends (W.contents writer.old) (W.contents writer.new) result bytes.now }
@@ -114,7 +108,7 @@ impl<W: Write> WriteBuffer<W> {
         &self.writer
     }
 
-    /// The writer may take bytes again, as its readiness says.
+    /// The writer may take bytes again.
     pub fn set_writable(&mut self)
         ensures { self.new ≡ record self.old { is_writable = true } }
     {
@@ -164,9 +158,8 @@ impl<W: Write> WriteBuffer<W> {
         }
     }
 
-    /// Writes buffered bytes as far as the writer takes them. Afterwards nothing is buffered, or the writer takes no
-    /// more until `set_writable`, or a write has failed. The buffer is returned once all is taken, and is empty. After a
-    /// failed write nothing is written and nothing changes.
+    /// Writes buffered bytes until nothing is buffered, the writer takes no more for now, or a write has failed. Once
+    /// all is taken the buffer is returned, and is empty. After a failed write nothing changes.
     pub fn write_out(&mut self, buffer: &mut Vec<u8>)
         ensures writes { WritesOut self.old self.new }
         ensures back { buffer.new.items ≡ [] }
@@ -184,7 +177,6 @@ impl<W: Write> WriteBuffer<W> {
         self.bytes = Vec::new(self.alloc);
     }
 
-    // Writes buffered bytes once; there are some. A writer that took less takes no more for now.
     fn write_some(&mut self)
         ensures goes_out { GoesOut self.old self.new [] }
         ensures ends { may_write self.new ≡ false }
@@ -201,7 +193,6 @@ impl<W: Write> WriteBuffer<W> {
         }
     }
 
-    // Records why a write took nothing.
     fn note_refused(&mut self, kind: ErrorKind)
         ensures kept { self.new ≡ record self.old {
           is_writable = self.new.is_writable;
@@ -218,7 +209,6 @@ impl<W: Write> WriteBuffer<W> {
         }
     }
 
-    // Writes until nothing is buffered or the writer takes no more.
     fn write_gathered(&mut self)
         ensures { WritesOut self.old self.new }
     {
@@ -237,14 +227,13 @@ impl<W: Write> WriteBuffer<W> {
         }
     }
 
-    // The number of buffered bytes.
     fn count(&self) -> usize
         ensures { result ≡ length self.now.buffered }
     {
         self.bytes.len() - self.written
     }
 
-    // Writes bytes directly; nothing is buffered.
+    // Nothing may be buffered.
     fn write_through(&mut self, bytes: &[u8]) -> io::Result<usize>
         requires { self.old.buffered ≡ [] }
         ensures bound { WritesAtMost result bytes.now }
@@ -267,7 +256,6 @@ impl<W: Write> WriteBuffer<W> {
         }
     }
 
-    // Gathers bytes behind the others.
     fn append(&mut self, bytes: &[u8]) -> Result<(), AllocError>
         ensures ok { OnOk result (self.new
             ≡ record self.old { buffered = self.old.buffered ++ bytes.now }) }
@@ -290,13 +278,12 @@ impl<W: Write> WriteBuffer<W> {
         }
     }
 
-    /// Takes these bytes; all of them if they are fewer than 65,536. They are buffered behind the others. A longer
-    /// text, or one for which there is no memory, is written at once behind the others, as far as the writer takes it.
-    /// At most 131,072 bytes are buffered.
+    /// Takes these bytes; all of them if they are fewer than 65,536. They are buffered, at most 131,072 in all. A
+    /// longer text, or one without memory, is written at once behind the others, as far as the writer takes it.
     ///
-    /// Returns `WouldBlock`, having taken nothing, if the writer takes no more for now and 65,536 bytes are buffered or
-    /// the text isn't buffered. Any other error, or 0 for a text that isn't empty, means that a write has failed, now
-    /// or before: nothing was taken, and nothing will be.
+    /// `WouldBlock`: nothing is taken, since the writer takes no more for now and 65,536 bytes are buffered or the
+    /// text isn't buffered. Any other error, or 0 for a text that isn't empty: a write has failed, and nothing is
+    /// taken any more.
     pub fn write(&mut self, bytes: &[u8]) -> io::Result<usize>
         ensures bound { WritesAtMost result bytes.now }
         ensures writes { WritesBuffer self.old self.new bytes.now result }
@@ -318,7 +305,6 @@ impl<W: Write> WriteBuffer<W> {
         }
     }
 
-    // Writes a text that isn't buffered.
     fn write_long(&mut self, bytes: &[u8]) -> io::Result<usize>
         ensures bound { WritesAtMost result bytes.now }
         ensures accepts { Accepts self.old self.new bytes.now result }

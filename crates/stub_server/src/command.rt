@@ -1,4 +1,3 @@
-//! The commands that a stub knows.
 ghost use Rattle.std.specs.Prelude.{◌≡◌, map};
 ghost use Rattle.std.specs.Option.{option_map};
 ghost use Rattle.stub_server.specs.Command.{rows, command_in, command_named};
@@ -19,7 +18,7 @@ pub enum Command {
     Incr,
 }
 
-/// A name, in lower case, and its command.
+/// A name and its command.
 #[derive(Clone, Copy, Debug, PartialEq, Eq)]
 pub struct NamedCommand {
     /// The name, in lower case.
@@ -59,21 +58,19 @@ const NAMED: [NamedCommand; 7] = [
     },
 ];
 
-/// The command of this name, compared without ASCII case, or `None`.
+/// Compared without ASCII case.
 pub(crate) fn command_named(name: &[u8]) -> Option<Command>
     ensures { result ≡ command_named name.now }
 {
     command_among(all_named(), name)
 }
 
-// All names with their commands.
 fn all_named() -> &'static [NamedCommand]
     ensures { map row_of result.now ≡ rows }
 {
     &NAMED
 }
 
-// The first of these commands with this name.
 fn command_among(named: &[NamedCommand], name: &[u8]) -> Option<Command>
     ensures { result ≡ command_in (map row_of named.now) name.now }
 {
@@ -88,7 +85,7 @@ fn command_among(named: &[NamedCommand], name: &[u8]) -> Option<Command>
 impl Command {
     ghost use Rattle.stub_server.specs.Command.{takes};
 
-    /// Whether the command may have this many words, with its name.
+    /// The name counts as a word.
     pub(crate) fn takes(self, words: usize) -> bool
         ensures { result ≡ takes self words }
     {

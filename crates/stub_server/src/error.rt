@@ -1,4 +1,3 @@
-//! Why a call is refused.
 ghost use Rattle.std.specs.Prelude.{◌≡◌};
 ghost use Rattle.stub_server.specs.declared.error.StubError.TheVariants.{NoMemory};
 
@@ -16,7 +15,7 @@ pub enum StubError {
 impl StubError {
     ghost use Rattle.stub_server.specs.Refusal.{number_of};
 
-    /// The number by which the refusal is documented, 1501.
+    /// Its number, 1501.
     pub fn number(self) -> u16
         ensures { result ≡ number_of self }
     {

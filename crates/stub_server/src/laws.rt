@@ -1,4 +1,3 @@
-//! Laws of the map and of numbers. Each is the contract of a function that does nothing; its users call it.
 ghost use Rattle.stub_server.specs.Laws.{SetKeyHasItsValue, RemovedKeyHasNoValue, KeysStayDistinct, NumberHasOneSpelling};
 
 /// A key that was set has its new value, and all other keys keep theirs.

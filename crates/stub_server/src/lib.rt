@@ -1,9 +1,8 @@
 //! A Redis host in memory, for tests and for `redproxy local`.
 //!
-//! A `Stub` answers requests by a small table of commands over a map from keys to byte strings, which is empty at
-//! first. A script can change that. The commands have their Redis meanings; their choice and the texts of errors are
-//! this project's own. A `StubLink` has two ends in memory: requests are written to one, and replies read from the
-//! other. It stands on `resp_core`. Begin with `stub.rt`, then `link.rt`.
+//! A `Stub` answers requests by a small table of commands over a map, which is empty at first. The commands have
+//! their Redis meanings; their choice and the texts of errors are this project's own. It stands on `resp_core`. Begin
+//! with `stub.rt`, then `link.rt`.
 #![tactic(auto)]
 
 mod command;

@@ -1,4 +1,3 @@
-//! A link to a stub, and its two ends.
 ghost use Rattle.std.specs.Prelude.{◌≡◌, ◌⊎◌, IfErr};
 ghost use Rattle.std.specs.Io.{ReadsAtMost, WritesAtMost};
 ghost use Rattle.std.specs.IoError.{error_kind};
@@ -20,8 +19,8 @@ pub struct StubLink {
 
 /// The end that replies are read from.
 ///
-/// A read returns the next bytes. It returns `WouldBlock` if there are none, and the end of the input once the link has
-/// ended and all replies were read. It has no other error.
+/// A read returns `WouldBlock` if there are no bytes, and the end of the input once the link has ended and all
+/// replies were read. It has no other error.
 #[derive(Drop)]
 pub struct StubReader {
     session: Arc<Mutex<Session>>,
@@ -29,10 +28,9 @@ pub struct StubReader {
 
 /// The end that requests are written to, in texts that a client may send.
 ///
-/// A write takes at most `MAX_TAKEN` bytes and serves the complete requests by the stub's script. A request without
-/// memory or room waits for a later read or write: none is served while `MAX_UNREAD` or more bytes of replies are
-/// unread. While one waits, a write takes no byte and returns `WouldBlock`. Once the link has ended, by `Act::Drop` or
-/// at a byte that fits no text, it returns `BrokenPipe`. It has no other error.
+/// A write takes at most `MAX_TAKEN` bytes. While `MAX_UNREAD` or more bytes of replies are unread, or without
+/// memory, requests wait, and a write returns `WouldBlock`. Once the link has ended, by `Act::Drop` or at a byte that
+/// fits no text, it returns `BrokenPipe`. It has no other error.
 #[derive(Drop)]
 pub struct StubWriter {
     session: Arc<Mutex<Session>>,
@@ -48,9 +46,7 @@ impl StubLink {
 
     /// The two ends of the link. A call of one during a call of the other, in another thread, returns `WouldBlock`.
     ///
-    /// They hold the stub, and at most `MAX_TAKEN` bytes of requests behind an unfinished one of at most 8,388,608.
-    /// They also hold less than `MAX_UNREAD` unread bytes of replies, with one reply behind them. Refused 1501 (no
-    /// memory): the link comes back.
+    /// Refused 1501 (no memory): the link comes back.
     pub fn ends(self, alloc: Global) -> Result<(StubReader, StubWriter), (StubError, StubLink)>
         ensures err { IfErr result (λ e. (e.0 ≡ StubError.NoMemory) × (e.1 ≡ self)) }
     {

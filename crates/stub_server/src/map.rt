@@ -1,4 +1,3 @@
-//! The map of a stub: its entries, in the order in which their keys came.
 ghost use Rattle.std.specs.Prelude.{◌≡◌, IfSome, IfNone, Some, None, OnOk, OnErr, IfErr, map};
 ghost use Rattle.std.specs.List.{position};
 ghost use Rattle.resp_core.specs.Value.{tree_of};
@@ -19,7 +18,6 @@ pub struct Entry {
     pub value: Bytes,
 }
 
-/// The value at the key, if the map has one.
 pub(crate) fn value_at<'a>(entries: &'a [Entry], key: &[u8]) -> Option<&'a Bytes>
     ensures found { IfSome result (λ value. value_at key.now entries.now ≡ Some value.now) }
     ensures missing { IfNone result (value_at key.now entries.now ≡ None) }
@@ -32,7 +30,7 @@ pub(crate) fn value_at<'a>(entries: &'a [Entry], key: &[u8]) -> Option<&'a Bytes
     None
 }
 
-/// Sets the key's value: replaces its present one, or adds it behind all others.
+/// Replaces the key's value in its place, or adds it behind all others.
 ///
 /// Refused 1501 (no memory): the map is unchanged.
 pub(crate) fn put(entries: &mut Vec<Entry>, key: Bytes, value: Bytes) -> Result<(), StubError>
@@ -47,7 +45,7 @@ pub(crate) fn put(entries: &mut Vec<Entry>, key: Bytes, value: Bytes) -> Result<
     Ok(())
 }
 
-/// The number of entries with one of these keys.
+/// The entries with one of these keys.
 pub(crate) fn count_among(entries: &[Entry], keys: &[Value]) -> usize
     ensures { result ≡ count_among (map payload_of (map tree_of keys.now)) entries.now }
 {
@@ -57,7 +55,7 @@ pub(crate) fn count_among(entries: &[Entry], keys: &[Value]) -> usize
         .count()
 }
 
-/// Removes the entries of these keys. It takes no memory.
+/// Takes no memory.
 pub(crate) fn take_out(entries: &mut Vec<Entry>, keys: &[Value])
     ensures { entries.new.items ≡ map_without
         (map payload_of (map tree_of keys.now)) entries.old.items }
@@ -65,7 +63,7 @@ pub(crate) fn take_out(entries: &mut Vec<Entry>, keys: &[Value])
     entries.retain(|entry| !is_among(keys, entry.key.as_slice()));
 }
 
-/// The number of these words that are keys of the map, repeats counted.
+/// The words that are keys, repeats counted.
 #[tactic(auto, using(crate::proofs::MapLemmas::count_by_map))]
 pub(crate) fn count_keys(entries: &[Entry], words: &[Value]) -> usize
     ensures { result ≡ count_keys entries.now (map payload_of (map tree_of words.now)) }
@@ -76,7 +74,6 @@ pub(crate) fn count_keys(entries: &[Entry], words: &[Value]) -> usize
         .count()
 }
 
-// Whether one of the words is this key.
 fn is_among(words: &[Value], key: &[u8]) -> bool
     ensures { result ≡ names_key (map payload_of (map tree_of words.now)) key.now }
 {
@@ -88,14 +85,12 @@ fn is_among(words: &[Value], key: &[u8]) -> bool
     false
 }
 
-// The index of the key's entry.
 fn place_of(entries: &[Entry], key: &[u8]) -> Option<usize>
     ensures { result ≡ position (is_of key.now) entries.now }
 {
     entries.iter().position(|entry| entry.key.as_slice() == key)
 }
 
-// Whether the key is in the map.
 fn is_key(entries: &[Entry], key: &[u8]) -> bool
     ensures { result ≡ is_key entries.now key.now }
 {

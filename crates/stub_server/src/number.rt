@@ -1,4 +1,3 @@
-//! Numbers in their one spelling.
 ghost use Rattle.std.specs.Prelude.{◌≡◌, IfOk, IfErr};
 ghost use Rattle.std.specs.Fmt.{signed_decimal};
 ghost use Rattle.stub_server.specs.Number.{number_in};
@@ -7,10 +6,8 @@ use crate::error::StubError;
 use bytes::Bytes;
 use std::alloc::Global;
 
-/// The signed 64-bit number with these bytes as its one spelling, or `None`.
-///
-/// The one spelling is decimal, with `-` before a negative number, without a plus sign and without leading zeros; zero
-/// is `0`. Refused 1501 (no memory).
+/// `None`: the bytes aren't a signed 64-bit number in its one decimal spelling, which has no plus sign and no leading
+/// zeros.
 pub(crate) fn number_in(alloc: Global, bytes: &[u8]) -> Result<Option<i64>, StubError>
     ensures number { IfOk result (λ number. number ≡ number_in bytes.now) }
     ensures memory { IfErr result (λ e. e ≡ StubError.NoMemory) }
@@ -28,9 +25,6 @@ pub(crate) fn number_in(alloc: Global, bytes: &[u8]) -> Result<Option<i64>, Stub
     }
 }
 
-/// The one spelling of the number.
-///
-/// Refused 1501 (no memory).
 pub(crate) fn spelling(alloc: Global, number: i64) -> Result<Bytes, StubError>
     ensures bytes { IfOk result (λ bytes. bytes ≡ signed_decimal number) }
     ensures memory { IfErr result (λ e. e ≡ StubError.NoMemory) }

@@ -1,4 +1,3 @@
-//! Replies that can be written.
 ghost use Rattle.std.specs.Prelude.{IsTrue};
 ghost use Rattle.resp_core.specs.Tree.{is_plain_tree};
 ghost use Rattle.resp_core.specs.Value.{tree_of};

@@ -1,4 +1,3 @@
-//! Scripts: how a stub handles the next requests.
 ghost use Rattle.std.specs.Prelude.{◌≡◌};
 ghost use Rattle.stub_server.specs.Script.{act_of, acts_after};
 
@@ -18,7 +17,7 @@ pub enum Act {
     Garble,
 }
 
-/// The remaining acts, which contracts see as a list.
+/// The remaining acts.
 #[derive(Drop)]
 pub struct Script {
     acts: Vec<Act>,
@@ -37,14 +36,12 @@ impl Model for Script {
 }
 
 impl Script {
-    // These acts, one after another.
     pub(crate) fn new(acts: Vec<Act>) -> Script
         ensures { result ≡ acts.items }
     {
         Script { acts, done: 0 }
     }
 
-    // The act for the next request.
     pub(crate) fn act(&self) -> Act
         ensures { result ≡ act_of self.now }
     {
@@ -54,7 +51,6 @@ impl Script {
         }
     }
 
-    // Goes on to the next request's act.
     pub(crate) fn advance(&mut self)
         ensures { self.new ≡ acts_after self.old }
     {

@@ -1,4 +1,3 @@
-//! The shared state of a link's two ends: the stub, its requests and its replies.
 ghost use Rattle.std.specs.Prelude.{◌≡◌, ◌≤◌, ◌<◌, ◌⊎◌, IfOk, IfErr, OnOk, length, true};
 ghost use Rattle.stub_server.specs.Session.{left_of, steps_of};
 
@@ -14,20 +13,14 @@ use std::mem;
 /// The most bytes that one write takes.
 pub const MAX_TAKEN: usize = 65_536;
 
-// The next step.
 #[derive(Drop)]
 pub(crate) enum SessionStep {
-    // Read a request.
     Read,
-    // Serve this one.
     Serve(Value),
-    // Append this reply.
     Say(Reply),
-    // Append a line that is no reply.
     Garble,
 }
 
-// A stub, the requests written to it, and the unread replies.
 #[derive(Drop)]
 pub(crate) struct Session {
     pub(crate) stub: Stub,
@@ -39,7 +32,6 @@ pub(crate) struct Session {
 }
 
 impl Session {
-    // A link to an empty stub, before any request.
     pub(crate) fn new(alloc: Global) -> Session {
         Session {
             stub: Stub::new(alloc),
@@ -50,9 +42,8 @@ impl Session {
         }
     }
 
-    // Takes bytes of requests, and serves the complete ones. Returns the number of bytes taken.
-    //
-    // None are taken while earlier requests wait for memory or for room for their replies.
+    // Takes bytes of requests, and serves the complete ones. Takes none while earlier requests wait for memory or for
+    // room.
     pub(crate) fn write(&mut self, bytes: &[u8]) -> Result<usize, ErrorKind>
         ensures taken { IfOk result (λ n. n ≤ length bytes.now) }
         ensures kinds { IfErr result
@@ -71,7 +62,7 @@ impl Session {
     }
 
     // Serves waiting requests, and moves bytes of replies. Returns their number, 0 only at the end or for an empty
-    // buffer. It answers `WouldBlock` where nothing is left before the end.
+    // buffer. `WouldBlock`: nothing is left before the end.
     pub(crate) fn read(&mut self, buffer: &mut [u8]) -> Result<usize, ErrorKind>
         ensures given { IfOk result (λ n. n ≤ length buffer.new) }
         ensures kinds { IfErr result (λ kind. kind ≡ ErrorKind.WouldBlock) }
@@ -84,7 +75,7 @@ impl Session {
         Err(ErrorKind::WouldBlock)
     }
 
-    // Serves requests while there is memory and room for replies. True: none is left.
+    // True: none is left.
     fn serve_all(&mut self) -> bool {
         while self.replies.len() < MAX_UNREAD {
             match self.go_on() {
@@ -96,7 +87,7 @@ impl Session {
         false
     }
 
-    // Makes the next step. False: there was none. A step without memory is made again later.
+    // False: there was none. A step without memory is made again later.
     fn go_on(&mut self) -> Result<bool, StubError>
         ensures falls { IfOk result (λ went. went ≡ true → left_of self.new < left_of self.old) }
     {
@@ -117,7 +108,7 @@ impl Session {
         }
     }
 
-    // Reads the next request. False: none has come.
+    // False: none has come.
     fn read_request(&mut self) -> Result<bool, StubError>
         requires next { self.old.next ≡ SessionStep.Read }
         ensures falls { IfOk result (λ came. came ≡ true → left_of self.new < left_of self.old) }
@@ -139,7 +130,6 @@ impl Session {
         }
     }
 
-    // Serves a request by the stub's script.
     fn serve(&mut self, request: Value) -> Result<(), StubError>
         requires next { self.old.next ≡ SessionStep.Read }
         ensures requests { self.new.requests ≡ self.old.requests }
@@ -158,7 +148,6 @@ impl Session {
         }
     }
 
-    // The next step after the stub's response to a request.
     fn serve_by_script(&mut self, request: &Value) -> Result<SessionStep, StubError>
         ensures requests { (self.new.requests ≡ self.old.requests)
             × (self.new.next ≡ self.old.next) }
@@ -175,7 +164,6 @@ impl Session {
         }
     }
 
-    // Appends a reply.
     fn say(&mut self, reply: Reply) -> Result<(), StubError>
         requires next { self.old.next ≡ SessionStep.Read }
         ensures requests { self.new.requests ≡ self.old.requests }
@@ -193,7 +181,6 @@ impl Session {
         }
     }
 
-    // Appends a line that is no reply.
     fn garble(&mut self) -> Result<(), StubError>
         requires next { self.old.next ≡ SessionStep.Read }
         ensures requests { self.new.requests ≡ self.old.requests }
@@ -206,7 +193,6 @@ impl Session {
         said
     }
 
-    // Sets the next step.
     fn then(&mut self, next: SessionStep)
         ensures { self.new ≡ record self.old { next = next } }
     {

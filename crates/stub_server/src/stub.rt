@@ -1,4 +1,3 @@
-//! The stub host.
 ghost use Rattle.std.specs.Prelude.{◌≡◌, [], IfOk, IfErr, OnErr, true, map, length, pos};
 ghost use Rattle.resp_core.specs.Value.{tree_of};
 ghost use Rattle.resp_core.specs.Tree.{whole, fault};
@@ -19,14 +18,13 @@ use resp_core::{Payload, Value, Values};
 use std::alloc::Global;
 use std::marker::Model;
 
-/// A Redis host in memory: a map from keys to byte strings, the answers to requests, and a script for handling them.
+/// A Redis host in memory: a map from keys to byte strings, and a script.
 pub struct Stub {
     alloc: Global,
     entries: Vec<Entry>,
     script: Script,
 }
 
-// Written out so that a drop is one call: each function that holds one is proved sooner.
 impl Drop for Stub {
     fn drop(self) {
         let Stub {
@@ -71,9 +69,8 @@ impl Stub {
         }
     }
 
-    /// Handles the next requests by these acts, one each, and later ones by `Act::Reply`.
-    ///
-    /// The rest of an earlier script is forgotten: this one serves requests that it would still hold.
+    /// Handles the next requests by these acts, one each, and later ones by `Act::Reply`. The rest of an earlier
+    /// script is forgotten.
     pub fn script(&mut self, acts: Vec<Act>)
         ensures script { self.new.script ≡ acts.items }
         ensures map { self.new.map ≡ self.old.map }
@@ -81,9 +78,9 @@ impl Stub {
         self.script = Script::new(acts);
     }
 
-    /// Handles a request by the script's next act: as `answer` does, or without an answer and a change of the map.
+    /// Handles a request by the script's next act; `Act::Hold` is also the act of all later requests.
     ///
-    /// `Act::Hold` is also the act of all later requests. Refused 1501 (no memory): nothing has changed.
+    /// Refused 1501 (no memory): nothing has changed.
     pub fn serve(&mut self, request: &Value) -> Result<Response, StubError>
         ensures response { IfOk result
             (λ response. IsResponse (act_of self.old.script) self.old.map
@@ -108,14 +105,13 @@ impl Stub {
     /// Answers the request by the table of commands, and changes the map:
     ///
     /// - GET key: the value as a bulk string, or the null bulk string.
-    /// - SET key value: simple `OK`; the key has this value from now on.
-    /// - DEL or UNLINK key ..: the number of keys removed from the map, as an integer.
-    /// - EXISTS or TOUCH key ..: the number of words that are keys, repeats counted, as an integer.
-    /// - INCR key: raises the number at the key by one and returns it, an integer. A missing key counts as 0. The value
-    ///   must be the one decimal spelling of a signed 64-bit number below the greatest; otherwise the answer is the error
-    ///   `ERR value is not an integer or out of range`.
-    /// - One of these with another number of words: the error `ERR wrong number of arguments`.
-    /// - Any other request: the error `ERR unknown command`.
+    /// - SET key value: simple `OK`.
+    /// - DEL or UNLINK key ..: the number of keys removed.
+    /// - EXISTS or TOUCH key ..: the number of words that are keys, repeats counted.
+    /// - INCR key: the number at the key, raised by one; a missing key counts as 0. The value must be the one decimal
+    ///   spelling of a signed 64-bit number below the greatest, or else `ERR value is not an integer or out of range`.
+    /// - Another number of words: `ERR wrong number of arguments`.
+    /// - Any other request: `ERR unknown command`.
     ///
     /// Names are compared without ASCII case. The script is neither read nor changed. Refused 1501 (no memory): the map
     /// is unchanged.
@@ -135,7 +131,6 @@ impl Stub {
     }
 }
 
-// The answer to a request with these words.
 fn answer_words(alloc: Global, entries: &mut Vec<Entry>, words: &Values) -> Result<Value, StubError>
     requires { are_words words.now ≡ true }
     ensures answer { IfOk result
@@ -156,7 +151,6 @@ fn answer_words(alloc: Global, entries: &mut Vec<Entry>, words: &Values) -> Resu
     answer_command(alloc, entries, command, words)
 }
 
-// The answer to a command with a right number of words.
 fn answer_command(
     alloc: Global,
     entries: &mut Vec<Entry>,
@@ -183,7 +177,6 @@ fn answer_command(
     }
 }
 
-// GET
 fn get(entries: &[Entry], key: &Payload) -> Result<Value, StubError>
     ensures answer { IfOk result
         (λ answer. tree_of answer ≡ bulk_of (value_at key.now entries.now)) }
@@ -195,7 +188,6 @@ fn get(entries: &[Entry], key: &Payload) -> Result<Value, StubError>
     }
 }
 
-// SET
 fn set(entries: &mut Vec<Entry>, key: &Payload, value: &Payload) -> Result<Value, StubError>
     ensures answer { IfOk result (λ answer. tree_of answer ≡ ok_reply) }
     ensures map { IfOk result
@@ -207,7 +199,6 @@ fn set(entries: &mut Vec<Entry>, key: &Payload, value: &Payload) -> Result<Value
     Ok(Value::Simple(Bytes::from_static(b"OK")))
 }
 
-// DEL and UNLINK
 fn delete(entries: &mut Vec<Entry>, keys: &[Value]) -> Result<Value, StubError>
     ensures answer { IfOk result
         (λ answer. tree_of answer ≡ whole
@@ -223,7 +214,6 @@ fn delete(entries: &mut Vec<Entry>, keys: &[Value]) -> Result<Value, StubError>
     Ok(answer)
 }
 
-// INCR
 fn increment(alloc: Global, entries: &mut Vec<Entry>, key: &Payload) -> Result<Value, StubError>
     ensures answer { IfOk result
         (λ answer. tree_of answer ≡
@@ -245,7 +235,7 @@ fn increment(alloc: Global, entries: &mut Vec<Entry>, key: &Payload) -> Result<V
     Ok(Value::Whole(next))
 }
 
-// The number at the key, 0 if the key is missing, or `None` if the value is no number.
+// 0 if the key is missing, or `None` if the value is no number.
 fn number_at(alloc: Global, entries: &[Entry], key: &[u8]) -> Result<Option<i64>, StubError>
     ensures number { IfOk result (λ number. number ≡ number_at key.now entries.now) }
     ensures memory { IfErr result (λ e. e ≡ StubError.NoMemory) }
@@ -256,8 +246,6 @@ fn number_at(alloc: Global, entries: &[Entry], key: &[u8]) -> Result<Option<i64>
     }
 }
 
-// A count as an answer.
-//
 // Memory has room for fewer entries and words than an integer can count.
 fn count_answer(count: usize) -> Result<Value, StubError>
     ensures answer { IfOk result (λ answer. tree_of answer ≡ whole (pos count)) }

@@ -1,4 +1,3 @@
-//! Unread texts of replies.
 ghost use Rattle.std.specs.Prelude.{◌≡◌, ◌++◌, [], OnOk, OnErr, IfErr, length, min, take, drop, codes};
 ghost use Rattle.resp_core.specs.Value.{tree_of};
 ghost use Rattle.resp_core.specs.Text.{text};
@@ -15,12 +14,12 @@ pub const MAX_UNREAD: usize = 65_536;
 // The most bytes of a buffer that is kept while no byte is unread.
 const MAX_IDLE: usize = 131_072;
 
-/// The unread bytes of replies, which contracts see as a list.
+/// The unread bytes of replies.
 #[derive(Drop)]
 pub struct Unread {
     alloc: Global,
     texts: Vec<u8>,
-    // The number of bytes in front that were read.
+    // Bytes in front that were read.
     given: usize,
 }
 
@@ -35,7 +34,6 @@ impl Model for Unread {
 }
 
 impl Unread {
-    // No unread bytes.
     pub(crate) fn new(alloc: Global) -> Unread
         ensures { result ≡ [] }
     {
@@ -52,7 +50,6 @@ impl Unread {
         self.texts.len() - self.given
     }
 
-    // Adds the text of a reply, or nothing where memory is refused.
     pub(crate) fn put(&mut self, reply: &Reply) -> Result<(), StubError>
         ensures ok { OnOk result (self.new ≡ self.old ++ text (tree_of reply.now.value)) }
         ensures err { OnErr result (self.new ≡ self.old) }
@@ -65,7 +62,6 @@ impl Unread {
         Ok(())
     }
 
-    // Adds a line that is no reply, or nothing where memory is refused.
     pub(crate) fn put_garbage(&mut self) -> Result<(), StubError>
         ensures ok { OnOk result (self.new ≡ self.old ++ codes "?\r\n") }
         ensures err { OnErr result (self.new ≡ self.old) }
@@ -88,7 +84,7 @@ impl Unread {
         self.given = 0;
     }
 
-    // Moves the first bytes into the buffer, as many as fit. Returns their number.
+    // Moves as many bytes as fit; returns their number.
     pub(crate) fn give(&mut self, buffer: &mut [u8]) -> usize
         ensures count { result ≡ min (length buffer.old) (length self.old) }
         ensures bytes { take result buffer.new ≡ take result self.old }
@@ -102,7 +98,6 @@ impl Unread {
         count
     }
 
-    // Forgets the text once all is read, and drops a large buffer.
     fn clear(&mut self)
         ensures { self.new ≡ self.old }
     {

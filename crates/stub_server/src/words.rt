@@ -1,11 +1,9 @@
-//! The words of a request.
 ghost use Rattle.std.specs.Prelude.{◌≡◌, true, map, drop};
 ghost use Rattle.resp_core.specs.Value.{tree_of};
 ghost use Rattle.resp_core.specs.Command.{are_words, payload_of};
 
 use resp_core::{Value, Values};
 
-/// The words after the first.
 pub(crate) fn keys_of(words: &Values) -> &[Value]
     requires { are_words words.now ≡ true }
     ensures { map tree_of result.now ≡ drop 1 words.now }
@@ -13,7 +11,7 @@ pub(crate) fn keys_of(words: &Values) -> &[Value]
     &words.0[1..]
 }
 
-/// The bytes of a bulk string; none for any other value.
+/// Empty for any value but a bulk string.
 pub(crate) fn payload(value: &Value) -> &[u8]
     ensures { result.now ≡ payload_of (tree_of value.now) }
 {

@@ -21,7 +21,6 @@ pub(crate) enum Act {
     CannotOpen(EngineError),
     // The first client sends this from now on.
     Says(Feed),
-    // The first client takes nothing, or takes bytes again.
     IsShut(bool),
     // The next host that asks for a link gets this one, after those added before it.
     Links(Link),
@@ -35,30 +34,23 @@ pub(crate) enum Act {
     HostSteps(u64, Progress),
     // The only host's link of this epoch is refused, which has this effect on the host.
     LinkRefused(u64, Trip),
-    // An event of this kind for the first connection is refused.
     IsRefused(Deed, Refusal),
 
-    // The first client took this.
     Took(Text),
     // The second client took this.
     SecondTook(Text),
-    // This was written over the first link.
     Asked(Text),
-    // This was written over the later links.
     AskedLater(Text),
     // The first client took the text at the index of the number of handed replies.
     TookHanded(&'static [&'static [u8]]),
     // This many repetitions of the first client's text are unread.
     Unread(u32),
 
-    // The newest error of a client's step.
     ClientFailed(Option<StepFailure>),
-    // The newest error of a host's step.
     HostFailed(Option<StepFailure>),
     // No step returned another error than this one.
     OnlyTold(EngineError),
 
-    // The number of steps of this kind.
     Did(Deed, usize),
     // The number of steps of this kind is at most this.
     DidAtMost(Deed, usize),
@@ -66,11 +58,9 @@ pub(crate) enum Act {
     Lost(Kind, u64, u64),
     // This many parts were answered or lost.
     AnsweredOrLost(usize),
-    // This many steps were recorded since the journal was last looked at.
     Recorded(usize),
     // Fewer steps than this were recorded.
     RecordedBelow(usize),
-    // This many parts were sent in this epoch.
     Sent(u64, usize),
     // Parts were written as sent: over the first link those of epoch 0 or a beginning, over the second those of epoch 1.
     WroteSent,
@@ -81,7 +71,6 @@ pub(crate) enum Act {
     IsNumbered(EngineError, u16),
 }
 
-// The result in place of the expected one, and its number, or an error's number.
 #[derive(Clone, Copy)]
 pub(crate) struct Came {
     what: &'static str,
@@ -105,7 +94,6 @@ impl Fault {
     };
 }
 
-// The result, unless it is right.
 fn unless(is_right: bool, what: &'static str, number: u64) -> Result<(), Came> {
     if is_right {
         Ok(())
@@ -114,7 +102,6 @@ fn unless(is_right: bool, what: &'static str, number: u64) -> Result<(), Came> {
     }
 }
 
-// An engine's error as an act's result.
 fn made(outcome: Result<(), EngineError>) -> Result<(), Came> {
     match outcome {
         Ok(()) => Ok(()),
@@ -134,7 +121,6 @@ pub(crate) struct Scene<'a> {
 }
 
 impl Scene<'static> {
-    // A scene that is a constant.
     pub(crate) fn of(acts: &'static [Act]) -> Scene<'static> {
         Scene {
             before: &[],
@@ -200,7 +186,6 @@ impl<'a> Rig<'a> {
         Ok(())
     }
 
-    // Plays acts from this index of the scene on; returns the next index.
     fn play_acts<Rt: Wait + AllocGlobal>(
         &mut self,
         rt: &Rt,
@@ -286,7 +271,6 @@ fn on_stage(stage: &Stage, core: &Core, act: Act) -> Result<(), Came> {
     }
 }
 
-// Checks the journal.
 fn see_journal(core: &Core, act: Act) -> Result<(), Came> {
     match act {
         Act::Did(deed, times) => see_count(count(core, deed), times),
@@ -375,7 +359,6 @@ fn see_text(taken: &Taken, text: Text) -> Result<(), Came> {
     )
 }
 
-// The first client took the text at the index of the number of handed replies.
 fn see_handed(taken: &Taken, core: &Core, texts: &[&'static [u8]]) -> Result<(), Came> {
     let handed = count(core, Deed::Handed);
     match texts.get(handed) {
@@ -414,7 +397,6 @@ fn see_sent(stage: &Stage, core: &Core) -> Result<(), Came> {
     )
 }
 
-// Whether the bytes taken begin the parts sent in this epoch.
 fn is_sent(taken: &Taken, core: &Core, epoch: u64) -> bool {
     match taken.bytes.try_borrow() {
         Ok(bytes) => begins_sent(core, epoch, bytes.as_slice()),
@@ -422,7 +404,6 @@ fn is_sent(taken: &Taken, core: &Core, epoch: u64) -> bool {
     }
 }
 
-// The first connection's event of this kind.
 fn event_of(deed: Deed) -> Event {
     match deed {
         Deed::Arrived => {

@@ -12,7 +12,6 @@ use proxy_engines::{EngineError, Progress};
 use std::sync::Wait;
 use std::test::Fail;
 
-// The result of a client whose writer failed, and of one whose reader failed.
 const WRITE_FAILED: Option<StepFailure> = Some(StepFailure {
     error: EngineError::WriteFailed,
     deed: Some(Deed::Closed),
@@ -23,7 +22,6 @@ const READ_FAILED: Option<StepFailure> = Some(StepFailure {
     deed: Some(Deed::Closed),
 });
 
-// A client closed because its writer failed.
 const WRITER_CUT: &[Act] = &[
     Act::ClientFailed(WRITE_FAILED),
     Act::IsNumbered(EngineError::WriteFailed, 1403),
@@ -71,7 +69,6 @@ fn check_writers<Rt: Wait + AllocGlobal>(
     Ok(())
 }
 
-// A write that takes nothing is a failure too.
 fn check_all_writers<Rt: Wait + AllocGlobal>(rt: &Rt) -> Result<(), Fault> {
     check_writers(rt, PINGS, 14)?;
     check_writers(rt, SET_AND_MGET, 28)?;
@@ -84,7 +81,6 @@ fn failing_writers_cut(rt: HostRuntime) -> Result<(), Fail> {
     Ok(())
 }
 
-// A client closed because its reader failed.
 const READER_CUT: &[Act] = &[
     Act::ClientFailed(READ_FAILED),
     Act::IsNumbered(EngineError::ReadFailed, 1402),

@@ -13,7 +13,6 @@ use ticket_gate::{Gate, Pass};
 
 const SWEEPS: u64 = 200;
 
-// A core with one host.
 pub(crate) fn core(alloc: Global) -> Result<Core, Fail>
     ensures { IfOk result (λ core. core.steps ≡ []) }
 {
@@ -36,7 +35,6 @@ fn sweep<R: Wait>(rt: &R, gate: &Gate<Core>, pass: Pass<Core>) -> (Pass<Core>, u
     (pass, answered)
 }
 
-// The steps and bytes of a sight.
 fn looked<R: Wait>(rt: &R, gate: &Gate<Core>, pass: &mut Pass<Core>) -> Option<(u64, u64)>
     requires { IsPassOf gate.now pass.old }
     ensures { IsPassOf gate.now pass.new }
@@ -47,7 +45,6 @@ fn looked<R: Wait>(rt: &R, gate: &Gate<Core>, pass: &mut Pass<Core>) -> Option<(
     }
 }
 
-// The moment of a sweep.
 pub(crate) fn swept_at(event: &Event) -> Option<u64> {
     match event {
         Event::Swept { t } => Some(*t),

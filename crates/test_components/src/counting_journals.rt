@@ -10,7 +10,6 @@ use proxy_core::{Answer, Core, CountingCore, Event, Settings};
 use std::alloc::Global;
 use std::test::Fail;
 
-/// A core with one host, which keeps its newest step alone.
 pub(crate) fn counting_core(alloc: Global) -> Result<CountingCore, Fail>
     ensures { IfOk result (λ core. core.steps ≡ []) }
 {
@@ -27,7 +26,6 @@ fn answer_alike(whole: &mut Core, counting: &mut CountingCore, one: Event, other
     }
 }
 
-// Whether both have the same pass and answer.
 fn are_same(one: Option<&Step<Event, Answer>>, other: Option<&Step<Event, Answer>>) -> bool {
     match (one, other) {
         (Some(one), Some(other)) => one.pass == other.pass && one.answer == other.answer,

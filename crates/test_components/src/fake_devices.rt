@@ -7,7 +7,6 @@ use std::io;
 use std::io::{ErrorKind, Read, Write};
 use stub_server::{StubReader, StubWriter};
 
-// The bytes of a reader.
 #[derive(Clone, Copy)]
 pub(crate) enum Feed {
     // A text, and then the end.
@@ -19,7 +18,6 @@ pub(crate) enum Feed {
 }
 
 impl Feed {
-    // How many times the other text still comes.
     pub(crate) fn times(self) -> u32 {
         match self {
             Feed::Then(_, _, times) => times,
@@ -62,7 +60,6 @@ pub(crate) struct Source<'a> {
 }
 
 impl Source<'_> {
-    // Takes at most this many of the next bytes, or pauses.
     fn give(&self, most: usize) -> io::Result<&'static [u8]> {
         let feed = self.feed.get();
         match feed.now() {
@@ -82,7 +79,6 @@ impl Source<'_> {
 // The text that a writer must have taken.
 #[derive(Clone, Copy)]
 pub(crate) enum Text {
-    // Exactly this.
     All(&'static [u8]),
     // A beginning of this.
     BeginningOf(&'static [u8]),
@@ -128,7 +124,6 @@ impl Taken {
         }
     }
 
-    // Whether this text was taken.
     pub(crate) fn is(&self, text: Text) -> bool {
         match self.bytes.try_borrow() {
             Ok(taken) => text.is(taken.as_slice()),
@@ -157,7 +152,6 @@ pub(crate) enum Reader<'a> {
     Text(Source<'a>),
 }
 
-// Written out, as in `rig.rt`.
 impl Drop for Reader<'_> {
     fn drop(self) {
         match self {
@@ -188,7 +182,6 @@ pub(crate) struct Writer<'a> {
     pub(crate) most: usize,
 }
 
-// Written out, as in `rig.rt`.
 impl Drop for Writer<'_> {
     fn drop(self) {
         let Writer {

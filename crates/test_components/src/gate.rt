@@ -105,7 +105,6 @@ pub(crate) fn enrol<S: Recorded + Drop, R: Wait>(
     }
 }
 
-// A gate around a new state, and two passes.
 pub(crate) fn pair<S: Recorded + Drop, R: Wait>(
     rt: &R,
     alloc: Global,
@@ -124,7 +123,6 @@ pub(crate) fn pair<S: Recorded + Drop, R: Wait>(
     }
 }
 
-// Two passes of a gate.
 pub(crate) fn enrol_both<S: Recorded + Drop, R: Wait>(
     rt: &R,
     gate: &Gate<S>,

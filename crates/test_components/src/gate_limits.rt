@@ -20,11 +20,9 @@ enum Act {
     // A turn of the first pass, and of the second, that doesn't wait.
     Tries(u64, Outcome),
     OtherTries(u64, Outcome),
-    // A sight of the first pass.
     Looks(Outcome),
 }
 
-// The outcome of a sight.
 fn look_of(look: Result<u64, TurnRefusal<AdditionRefusal, ()>>) -> Outcome {
     match look {
         Ok(total) => Outcome::Answered(total),
@@ -33,7 +31,6 @@ fn look_of(look: Result<u64, TurnRefusal<AdditionRefusal, ()>>) -> Outcome {
     }
 }
 
-// Whether an act has its expected outcome.
 fn comes_so<R: Wait>(
     rt: &R,
     gate: &Gate<RunningTotal>,
@@ -71,7 +68,6 @@ fn first_fault<R: Wait>(
     None
 }
 
-// Whether these are the steps, each by its pass and amount.
 fn has_steps(state: &RunningTotal, steps: &[(u64, u64)]) -> bool {
     let mut total = 0u64;
     for (step, (pass, amount)) in state.steps().iter().zip(steps) {
@@ -83,7 +79,6 @@ fn has_steps(state: &RunningTotal, steps: &[(u64, u64)]) -> bool {
     state.steps().len() == steps.len() && state.total() == total
 }
 
-// The same, of a gate's last state.
 fn ends_with(state: Option<RunningTotal>, steps: &[(u64, u64)]) -> bool {
     let Some(state) = state else {
         return false;
@@ -246,7 +241,6 @@ fn turn_again<R: Wait>(rt: &R, gate: &Gate<RunningTotal>, pass: &mut Pass<Runnin
     }
 }
 
-// Whether the gate answers a turn.
 fn answers<R: Wait>(
     rt: &R,
     gate: Gate<RunningTotal>,
@@ -288,7 +282,6 @@ fn one_pass_alone(rt: HostRuntime) -> Result<(), Fail> {
     Ok(())
 }
 
-// Whether this is the text of a refusal.
 fn says<D: Display>(alloc: Global, refusal: &D, text: &str) -> Result<bool, Fail> {
     let said = format!(in alloc; "{refusal}")?;
     Ok(said.as_str() == text)

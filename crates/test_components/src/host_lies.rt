@@ -32,7 +32,6 @@ const HALF: &[Act] = &[
     Act::HostFailed(None),
 ];
 
-// Every proper beginning of the reply.
 fn check_halves<Rt: Wait + AllocGlobal>(rt: &Rt, reply: &'static [u8]) -> Result<(), Fault> {
     for len in 0..reply.len() {
         check_half(rt, reply.split_at(len).0)?;
@@ -236,7 +235,6 @@ const FOUR_ANSWERED: &[Act] = &[
     Act::DidAtMost(Deed::Taken, 4),
 ];
 
-// The error of a host whose link failed, and the number of faults.
 const READ_FAILED: (Option<StepFailure>, usize) = (
     Some(StepFailure {
         error: EngineError::ReadFailed,

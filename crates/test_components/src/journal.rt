@@ -2,7 +2,6 @@
 
 use proxy_core::{Answer, Core, Event, Kind, Step, Trip};
 
-// The kind of a step.
 #[derive(Clone, Copy, PartialEq)]
 pub(crate) enum Deed {
     Opened,
@@ -32,7 +31,6 @@ impl Deed {
     }
 }
 
-// A fault of a link in the journal.
 #[derive(Clone, Copy, PartialEq)]
 pub(crate) struct Loss {
     pub(crate) kind: Kind,
@@ -69,7 +67,6 @@ pub(crate) fn count(core: &Core, deed: Deed) -> usize {
     found
 }
 
-// The kind of the newest step.
 pub(crate) fn last_deed(core: &Core) -> Option<Deed> {
     let journal = core.journal();
     match journal.get(journal.len().saturating_sub(1)) {
@@ -78,7 +75,6 @@ pub(crate) fn last_deed(core: &Core) -> Option<Deed> {
     }
 }
 
-// The newest fault.
 pub(crate) fn last_loss(core: &Core) -> Option<Loss> {
     let journal = core.journal();
     let mut found = None;
@@ -105,7 +101,6 @@ pub(crate) fn last_trip(core: &Core) -> Option<(u64, Trip)> {
     }
 }
 
-// The number of parts sent in this epoch.
 pub(crate) fn sent_in(core: &Core, epoch: u64) -> usize {
     let journal = core.journal();
     let mut found = 0usize;
@@ -135,7 +130,6 @@ fn sent_at(core: &Core, place: usize, epoch: u64) -> Option<&[u8]> {
     }
 }
 
-// The bytes of the parts sent in this epoch.
 pub(crate) fn sent_len(core: &Core, epoch: u64) -> usize {
     let mut len = 0usize;
     for place in 0..core.journal().len() {

@@ -1,9 +1,5 @@
-//! The tests of library crates that can't be rows. It stands on the core, its parts, the engines, the gate, `sweeper`,
-//! `stub_server`, `proxy_notices`, `proxy_stats` and `test_total`.
-//!
-//! They test the ticket gate, in one thread and in several, around a running total and around the core. They test
-//! sweeps on a core, and the engines over refused turns and over devices that stop short, pause, fail and lie. Last
-//! come works in several threads, the ends of a link to a stub, and the laws of all crates. Begin with `acts.rt` and `rig.rt`.
+//! The tests of library crates that can't be rows. It stands on the core, its parts, the engines, the gate,
+//! `sweeper`, `stub_server`, `proxy_notices`, `proxy_stats` and `test_total`. Begin with `acts.rt` and `rig.rt`.
 #![tactic(auto)]
 
 #[cfg(test)]

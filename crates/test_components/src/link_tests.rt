@@ -51,7 +51,6 @@ fn say(writer: &mut StubWriter, piece: &[u8]) -> usize {
     0
 }
 
-// Whether a write is refused with this kind of error.
 fn refuses(writer: &mut StubWriter, kind: ErrorKind) -> bool {
     match writer.write(INCR) {
         Ok(_) => false,
@@ -140,7 +139,7 @@ fn burst(alloc: Global) -> Result<Vec<u8>, Fail> {
     Ok(texts)
 }
 
-// The answer to it: this many bytes, with these first and last ones.
+// The answer to it.
 const BURST_ANSWERS: Text = Text::Long(5 + 1_000 * 40_010, b"+OK\r\n$40000\r\nv", b"v\r\n");
 
 // Whether further requests are taken only as replies are read, and all are answered.

@@ -51,7 +51,6 @@ pub(crate) const MOVES: &[(Move, Told)] = &[
     (Move::Hands(2), (None, NONE)),
 ];
 
-// A request of these words.
 fn request(alloc: Global, words: &[&[u8]]) -> Result<Request, Fail> {
     let mut members = Vec::new(alloc);
     for word in words {
@@ -90,7 +89,6 @@ pub(crate) fn event(alloc: Global, it: Move) -> Result<Event, Fail> {
     })
 }
 
-// Whether the event is accepted.
 fn accepts(core: &mut Core, event: Event) -> bool {
     let turned = core.turn(0, event);
     let is_accepted = turned.is_ok();

@@ -30,7 +30,6 @@ enum Act {
     },
     // A reply came for the connection.
     Replies(u64),
-    // Parts came for the host.
     Parts(usize),
     Presses(usize),
     // The worker takes all that it is told of replies: of any client, or the word of this index with these bits.
@@ -182,7 +181,6 @@ const HELD_BACK: &[Act] = &[
     Act::Pressed(1 << 5),
 ];
 
-// Makes an act. False: another answer was due.
 fn is_right(notices: &Notices, act: Act) -> bool {
     match act {
         Act::Adds { conn, worker, key } => notices.add_client(conn, worker, key),

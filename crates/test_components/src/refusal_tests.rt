@@ -60,7 +60,6 @@ fn check_alike<Rt: Wait + AllocGlobal>(
     }
 }
 
-// From each turn but the first, one turn is refused, and then six.
 fn check_refused<Rt: Wait + AllocGlobal>(
     rt: &Rt,
     exchange: Exchange,

@@ -19,13 +19,11 @@ type Output<'a> = Faulty<Tallied<Writer<'a>>>;
 
 type Host<'a> = HostEngine<Input<'a>, Output<'a>>;
 
-// An end of the proxy.
 enum Engine<'a> {
     Client(ClientEngine<Input<'a>, Output<'a>>),
     Host(Host<'a>),
 }
 
-// Written out, as below.
 impl Drop for Engine<'_> {
     fn drop(self) {
         match self {
@@ -54,10 +52,8 @@ pub(crate) struct Ends {
 }
 
 impl Ends {
-    // More bytes than any call has.
     pub(crate) const ALL: usize = 100_000;
 
-    // Ends that never fail and never stop short.
     pub(crate) const FREE: Ends = Ends {
         reads: u64::MAX,
         writes: u64::MAX,
@@ -148,7 +144,6 @@ pub(crate) struct Rig<'a> {
     pub(crate) seen: usize,
 }
 
-// Written out, since a drop is then one call wherever a rig ends. A derived one is expanded and proved at each of these places.
 impl Drop for Rig<'_> {
     fn drop(self) {
         let Rig {
@@ -216,7 +211,6 @@ impl<'a> Rig<'a> {
         self.engines.push(engine).or(Err(EngineError::NoMemory))
     }
 
-    // Opens a connection.
     fn open_once<Rt: Wait + AllocGlobal>(
         &mut self,
         rt: &Rt,
@@ -311,7 +305,6 @@ impl<'a> Rig<'a> {
         }
     }
 
-    // Steps the first client once, if there is one.
     pub(crate) fn step_client<Rt: Wait>(
         &mut self,
         rt: &Rt,
@@ -319,7 +312,6 @@ impl<'a> Rig<'a> {
         self.step_at(rt, self.hosts, 0)
     }
 
-    // Steps the first host once at this moment, if there is one.
     pub(crate) fn step_host<Rt: Wait>(
         &mut self,
         rt: &Rt,
@@ -375,7 +367,6 @@ impl<'a> Rig<'a> {
     }
 }
 
-// Gives a host its link.
 fn attach<'a>(
     alloc: Global,
     host: &mut Host<'a>,

@@ -1,10 +1,7 @@
-//! The surroundings of the engines: the texts of clients and a host, and the bytes that each took.
-
 use crate::fake_devices::{Feed, Taken};
 use std::alloc::Global;
 use std::cell::Cell;
 
-// A client's text, and the bytes that it took.
 #[derive(Drop)]
 pub(crate) struct Visitor {
     pub(crate) says: Cell<Feed>,
@@ -29,7 +26,6 @@ pub(crate) struct Stage {
     pub(crate) asked_later: Taken,
 }
 
-// Written out, as in `rig.rt`.
 impl Drop for Stage {
     fn drop(self) {
         let Stage {

@@ -1,5 +1,3 @@
-//! The requests of clients, and the answers of three hosts that are empty at first.
-
 // A client's requests, and the answers.
 pub(crate) type Exchange = (&'static [u8], &'static [u8]);
 

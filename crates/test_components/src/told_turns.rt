@@ -72,7 +72,6 @@ fn turn(counted: &mut TalliedCore, event: Event) {
     drop(Recorded::turn(counted, 0, event));
 }
 
-// The word of the connection's key.
 fn word_of(conn: usize) -> Option<ReadyWord> {
     let key = *KEYS.get(conn)?;
     Some(ReadyWord {
@@ -81,7 +80,6 @@ fn word_of(conn: usize) -> Option<ReadyWord> {
     })
 }
 
-// Takes what the workers are to know.
 fn take_news(notices: &Notices) -> Heard {
     let hosts = [notices.take_hosts(0), notices.take_hosts(1)];
     let all = [notices.take_all(0), notices.take_all(1)];

@@ -1,4 +1,3 @@
-//! Turns on a core of one's own, some of which are refused as if no ticket were left.
 ghost use Rattle.std.specs.Prelude.{⊤};
 ghost use Rattle.proxy_core.specs.Recorded.{journal_of, made_with, IsLegalJournal, IsCauseIn};
 

@@ -86,7 +86,6 @@ impl Read for Meeting<'_> {
     }
 }
 
-// Counts the bytes that it takes.
 #[derive(Drop)]
 struct Counter<'a> {
     point: &'a MeetingPoint,
@@ -127,7 +126,6 @@ fn client<'a, R: Wait>(
     }
 }
 
-// Two clients that meet, the second with a reader that fails in the end.
 fn clients<'a, R: Wait>(
     rt: &R,
     alloc: Global,

@@ -63,7 +63,6 @@ fn told(alloc: Global, ejector: &mut Ejector, verb: &str, words: &str) -> Result
     }
 }
 
-// Replaces the ejector by one that starts from its state.
 fn go_on(alloc: Global, ejector: &mut Ejector) -> Result<String> {
     match again!(Ejector::new_from(alloc, ejector.snapshot())) {
         Ok(next) => {
@@ -96,7 +95,6 @@ fn seen_of(alloc: Global, ejector: &Ejector, verb: &str, host: usize) -> Result<
     }
 }
 
-// Gives a result of one host, or of each from the first to the last.
 fn results(alloc: Global, ejector: &mut Ejector, ok: bool, words: &str) -> Result<String> {
     let (hosts, moment) = first_word(words);
     let moment = number(moment)?;

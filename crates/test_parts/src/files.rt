@@ -80,7 +80,6 @@ fn long(alloc: Global, len: usize) -> Result<String> {
     told_with(alloc, "listen", value.as_str())
 }
 
-// This letter `count` times.
 fn of_one(alloc: Global, letter: char, count: usize) -> Result<String> {
     let mut text = String::new(alloc);
     for _ in 0..count {

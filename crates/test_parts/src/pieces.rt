@@ -37,7 +37,6 @@ fn put_piece(alloc: Global, stream: &mut Vec<u8>, word: &str) -> Result<()> {
     Ok(())
 }
 
-// A bulk string of this length.
 fn bulk_string(alloc: Global, length: usize) -> Result<Vec<u8>> {
     let mut text = format!(in alloc; "${length}\r\n")?.into_bytes();
     text.resize(text.len().saturating_add(length), 7)?;

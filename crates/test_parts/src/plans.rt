@@ -60,7 +60,6 @@ fn planned_as(alloc: Global, request: &Request) -> Result<String> {
     text
 }
 
-// The command of these words.
 fn command_of(alloc: Global, words: &str) -> Result<Request> {
     let mut members = Vec::new(alloc);
     for word in words.split(' ') {
@@ -118,7 +117,6 @@ fn put_part(text: &mut String, part: &PartPlan) -> Result<()> {
     put_escaped(text, part.text.as_slice())
 }
 
-// The join of the values of a text.
 fn joined(alloc: Global, words: &str) -> Result<String> {
     let (how, text) = first_word(words);
     let how = join_of(how)?;

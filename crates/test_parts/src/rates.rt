@@ -59,7 +59,6 @@ fn rates_of(alloc: Global, words: &str) -> Result<Vec<Option<u32>>> {
     Ok(rates)
 }
 
-// Whether every rate is at most a million.
 fn are_shares(rates: &[Option<u32>]) -> bool
     ensures { IsTrue result → All (λ rate. ForSome rate (λ share. share ≤ 1000000)) rates.now }
 {

@@ -176,7 +176,6 @@ struct Reading {
 }
 
 impl Reading {
-    // Before any bytes.
     fn new(alloc: Global, limits: Limits, as_texts: bool) -> Reading {
         Reading {
             reader: Reader::new(alloc, limits),
@@ -303,7 +302,6 @@ fn words_text(alloc: Global, value: Value) -> Result<String> {
     text
 }
 
-// The words of a command, each in quotes.
 fn words_in_quotes(alloc: Global, value: &Value) -> Result<String> {
     let Some(words) = value.words() else {
         return shown(alloc, "no words");

@@ -57,7 +57,6 @@ fn response_text(alloc: Global, response: Response) -> Result<String> {
     }
 }
 
-// The acts of these names.
 fn acts_of(alloc: Global, words: &str) -> Result<Vec<Act>> {
     let mut acts = Vec::new(alloc);
     if words.is_empty() {

@@ -1,7 +1,4 @@
-//! Calls that are tried twice.
-
-/// Makes a call, and once more if it fails, since memory may have been refused. A failed call has to leave everything
-/// as it was.
+/// Makes a call, and once more if it fails, since memory may have been refused.
 #[macro_export]
 macro_rules! again {
     ($call:expr) => {

@@ -1,9 +1,8 @@
-//! What programs of rows share: a script is played on the subjects of its rows, and its words are read and written.
+//! What programs of rows share: a script is played on the subjects of its rows.
 //!
-//! A row is a line `row NAME SUBJECT ARGUMENTS..` and the lines below it, one action each. Every line is printed as it
-//! stands, and after an action ` => ` and its answer. So the output, cut at each ` => `, is the input. Blank lines and
-//! lines that begin with `#` are copied. It stands on `resp_core`, `splitter`, `ketama` and `ejector`, whose values
-//! a script has. Begin with `script.rt`, then `subject.rt`.
+//! A row is a line `row NAME SUBJECT ARGUMENTS..` and the lines below it, one action each. Every line is printed as
+//! it stands, and after an action ` => ` and its answer. Blank lines and lines that begin with `#` are copied. It
+//! stands on `resp_core`, `splitter`, `ketama` and `ejector`. Begin with `script.rt`, then `subject.rt`.
 #![tactic(auto)]
 
 mod again;

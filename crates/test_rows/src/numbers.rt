@@ -1,5 +1,3 @@
-//! Numbers that look random.
-
 /// Numbers that look random (xorshift, 64 bits). The seed may not be 0.
 #[derive(Clone, Copy)]
 pub struct Numbers(pub u64);

@@ -1,5 +1,3 @@
-//! Rings of the script.
-
 use crate::text::number;
 use anyhow::{Result, bail};
 use ketama::{HostName, Ring, RingError};

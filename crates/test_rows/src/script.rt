@@ -1,5 +1,3 @@
-//! The script: rows, their actions, and the answers printed beside them.
-
 use crate::again;
 use crate::series::Series;
 use crate::subject::Subject;
@@ -7,8 +5,8 @@ use crate::text::{first_word, number};
 use anyhow::{Context, Result, bail};
 use std::alloc::Global;
 
-/// Prints each line of the script, and after an action ` => ` and its answer. Ends in an error at the first line that is no
-/// row, action or comment, and where no memory is left.
+/// Prints each line of the script, and after an action its answer. Ends in an error at the first line that is no row,
+/// action or comment.
 pub fn play<S: Subject>(rt: &impl Print, alloc: Global, text: &str) -> Result<()> {
     let mut subject: Option<S> = None;
     let played = play_lines(rt, alloc, text, &mut subject);
@@ -37,7 +35,6 @@ fn play_lines<S: Subject>(
     Ok(())
 }
 
-// The answer to a line; empty for one that begins a row or isn't an action.
 fn read_line<S: Subject>(alloc: Global, subject: &mut Option<S>, line: &str) -> Result<String> {
     if line.is_empty() || line.starts_with('#') {
         return Ok(String::new(alloc));
@@ -56,7 +53,6 @@ fn read_line<S: Subject>(alloc: Global, subject: &mut Option<S>, line: &str) -> 
     }
 }
 
-// Makes an action several times, by the words `TIMES ACTION`.
 fn repeated<S: Subject>(alloc: Global, subject: &mut S, words: &str) -> Result<String> {
     let (times, action) = first_word(words);
     let times: u64 = number(times)?;

@@ -1,20 +1,16 @@
-//! The answers to a repeated action.
-
 use crate::again;
 use crate::shown::shown;
 use anyhow::Result;
 use std::alloc::Global;
 
-/// Answers in their order, printed by runs. Those of a run are equal, or their first numbers count up.
+/// Answers in their order, printed by runs of equal ones or of ones that count up.
 #[derive(Drop)]
 pub struct Series {
     alloc: Global,
-    // The runs that have ended.
     ended: String,
     run: Option<Run>,
 }
 
-// Equal answers, or answers that count up.
 #[derive(Drop)]
 struct Run {
     first: String,
@@ -44,7 +40,6 @@ impl Series {
         }
     }
 
-    // Begins a run with the answer, and ends the present one.
     fn begin(&mut self, answer: String) -> Result<()> {
         let fresh = Run::of(self.alloc, answer)?;
         if let Some(run) = self.run.replace(fresh) {
@@ -76,7 +71,6 @@ impl Run {
         })
     }
 
-    // Whether the answer belongs to the run.
     fn goes_on_with(&self, answer: &str) -> bool {
         let last = self.last.as_str();
         if self.count > 1 && self.counts_up {
@@ -92,7 +86,6 @@ impl Run {
         self.count = self.count.saturating_add(1);
     }
 
-    // Appends the run to the text.
     fn tell(&self, alloc: Global, text: &mut String) -> Result<()> {
         let told = self.text(alloc)?;
         if !text.is_empty() {
@@ -112,7 +105,7 @@ impl Run {
     }
 }
 
-// Whether the answers differ only in their first numbers, and the second's is greater by one.
+// They differ only in their first numbers, and the second's is greater by one.
 fn is_next(one: &str, other: &str) -> bool {
     match (Numbered::of(one), Numbered::of(other)) {
         (Some(one), Some(other)) => {
@@ -124,7 +117,6 @@ fn is_next(one: &str, other: &str) -> bool {
     }
 }
 
-// A text split at its first number.
 #[derive(Clone, Copy)]
 struct Numbered<'a> {
     before: &'a [u8],
@@ -147,7 +139,6 @@ impl<'a> Numbered<'a> {
     }
 }
 
-// The text up to its first digit, or up to its first other byte, and the rest.
 fn cut_at(text: &[u8], digit: bool) -> (&[u8], &[u8]) {
     for at in 0..text.len() {
         if text[at].is_ascii_digit() == digit {
@@ -157,7 +148,7 @@ fn cut_at(text: &[u8], digit: bool) -> (&[u8], &[u8]) {
     text.split_at(text.len())
 }
 
-// The number of the digits; the greatest number if it doesn't fit.
+// The greatest number if it doesn't fit.
 fn number_of(digits: &[u8]) -> u64 {
     let mut number = 0u64;
     for digit in digits {

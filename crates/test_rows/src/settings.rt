@@ -1,5 +1,3 @@
-//! Settings of outlier detection in the script.
-
 use crate::shown::shown;
 use crate::text::unknown;
 use anyhow::Result;

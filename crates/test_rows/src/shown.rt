@@ -1,5 +1,3 @@
-//! Answers in words.
-
 use crate::again;
 use crate::text::put_escaped;
 use anyhow::Result;
@@ -18,13 +16,12 @@ pub fn escaped(alloc: Global, bytes: &[u8]) -> Result<String> {
     Ok(text)
 }
 
-/// A refusal in words: its number, then its name and fields as in the code.
+/// A refusal's number, name and fields.
 pub fn refusal_words(alloc: Global, number: u16, refusal: &impl Debug) -> Result<String> {
     let shown = shown(alloc, format_args!("{number} {refusal:?}"))?;
     again!(without_marks(alloc, shown.as_str()))
 }
 
-// The words without braces, and without the colons behind them.
 fn without_marks(alloc: Global, words: &str) -> Result<String> {
     let mut text = String::new(alloc);
     for word in words.split_whitespace() {

@@ -11,7 +11,7 @@ pub fn first_word(line: &str) -> (&str, &str) {
     line.split_once(' ').unwrap_or((line, ""))
 }
 
-/// The error for a word that names nothing of this kind.
+/// The error for an unknown word.
 pub fn unknown<T>(kind: &str, word: &str) -> Result<T> {
     bail!("no {kind} is named {word:?}")
 }
@@ -66,20 +66,15 @@ pub fn put_escaped(text: &mut String, bytes: &[u8]) -> Result<()> {
     Ok(())
 }
 
-// The part of an escape that was read.
 #[derive(Clone, Copy)]
 enum Escape {
     Outside,
-    // The backslash.
     Begun,
-    // The `x`.
     Hex,
-    // The first digit.
     HexDigit(u32),
 }
 
 impl Escape {
-    // The state after this byte, and the byte that it completes.
     fn read(self, byte: u8) -> Result<(Escape, Option<u8>)> {
         match (self, byte) {
             (Escape::Outside, b'\\') => Ok((Escape::Begun, None)),

@@ -1,5 +1,3 @@
-//! Values and requests of the script.
-
 use crate::text::{first_word, number, unescaped, word_bytes};
 use anyhow::{Result, bail};
 use bytes::Bytes;
@@ -7,14 +5,11 @@ use resp_core::{Limits, Payload, Reader, SpelledCommand, Value, Values, put_text
 use splitter::Request;
 use std::alloc::Global;
 
-// A request of a given length has this many members. All but the first are written in 65,536 bytes each.
 const BIG_MEMBERS: usize = 1_024;
 
-// The payload of such a member.
 const BIG_PAYLOAD: usize = 65_526;
 
-// The bytes of such a request without the first member's payload: 7 for the count, 1,023 members, and 10 around the
-// first payload, whose length has five digits.
+// 7 for the count, 1,023 members, and 10 around the first payload, whose length has five digits.
 const BIG_REST: usize = 7 + 1_023 * 65_536 + 10;
 
 /// The value of a RESP2 text with escapes; after `simple`, a simple string of any bytes.
@@ -105,7 +100,6 @@ pub fn bulk(alloc: Global, word: &str) -> Result<Value> {
     Ok(Value::Bulk(Payload::new(Bytes::from_vec(word_bytes(alloc, word)?)?)))
 }
 
-// The command of this name with the key `a` repeated.
 fn many(alloc: Global, words: &str) -> Result<Request> {
     let (name, keys) = first_word(words);
     let mut members = Vec::new(alloc);

@@ -1,5 +1,3 @@
-//! Compares the answers of the core and the plain program.
-
 use anyhow::Result;
 use std::alloc::Global;
 use test_rows::shown::shown;
@@ -18,7 +16,6 @@ pub(crate) fn agreement(
     }
 }
 
-/// The common answer, or the two.
 pub(crate) fn agreed(alloc: Global, core: String, plain: String) -> Result<String> {
     if core.as_str() == plain.as_str() {
         Ok(core)

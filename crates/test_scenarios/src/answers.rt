@@ -1,5 +1,3 @@
-//! Answers and refusals of proxies in words.
-
 use anyhow::Result;
 use proxy_core::{Answer, Field, Local, Refusal};
 use std::alloc::Global;

@@ -1,5 +1,3 @@
-//! Events of the script.
-
 use anyhow::Result;
 use proxy_core::{Event, Kind};
 use std::alloc::Global;
@@ -60,7 +58,6 @@ fn taken(host: &str) -> Result<Event> {
     Ok(Event::Taken { host })
 }
 
-// An event whose only field is a connection or a moment.
 fn event_of_number(name: &str, field: u64) -> Result<Event> {
     match name {
         "Finished" => Ok(Event::Finished { conn: field }),

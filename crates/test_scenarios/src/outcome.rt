@@ -1,5 +1,3 @@
-//! The outcome of an event, in words.
-
 use crate::answers::{answer_text, refusal_text};
 use crate::proxy::Proxy;
 use anyhow::Result;
@@ -57,7 +55,6 @@ fn told<P: Proxy>(
     Ok(text)
 }
 
-// The refusal, or the answer: from the step if the call doesn't return it.
 fn turn_text(
     alloc: Global,
     turn: &Result<Option<Answer>, Refusal>,
@@ -71,7 +68,6 @@ fn turn_text(
     }
 }
 
-// The fault of the added steps.
 fn fault(
     turn: &Result<Option<Answer>, Refusal>,
     step: Option<&Step<Event, Answer>>,

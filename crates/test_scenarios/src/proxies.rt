@@ -23,7 +23,6 @@ use test_rows::text::{first_word, number, unknown};
 // The pass of a row's events, until an action names another.
 const FIRST_PASS: u64 = 7;
 
-// Printed for a proxy that was made.
 const MADE: &str = "made";
 
 /// The core, the plain program, or both, on one setting.
@@ -34,7 +33,6 @@ pub struct Proxies {
     other: Option<Core>,
     plain: Option<Reference>,
     pass: u64,
-    // The events of an unfinished run.
     run: Option<Run>,
 }
 
@@ -78,7 +76,6 @@ impl Subject for Proxies {
 }
 
 impl Proxies {
-    /// The proxies of this name on a setting.
     pub(crate) fn on(alloc: Global, name: &str, setting: Setting) -> Result<Proxies> {
         let mut proxies = Proxies {
             core: None,
@@ -108,7 +105,6 @@ impl Proxies {
         Ok(())
     }
 
-    // Starts again, if the setting has no error.
     fn begin(&mut self, alloc: Global, arguments: &str) -> Result<String> {
         let setting = Setting::read(alloc, arguments)?;
         let core = begun(alloc, &mut self.core, setting.core(alloc));
@@ -199,7 +195,6 @@ impl Proxies {
         agreement(alloc, core, plain)
     }
 
-    // Takes one event, or adds it to the run that has begun.
     fn event(&mut self, alloc: Global, line: &str) -> Result<String> {
         if let Some(run) = &mut self.run {
             run.add(alloc, self.pass, line)?;
@@ -229,7 +224,6 @@ fn begun<P: Drop>(
     }
 }
 
-// The result of the line's event, if there is a proxy.
 fn taken_by<P: Proxy>(
     alloc: Global,
     proxy: &mut Option<P>,

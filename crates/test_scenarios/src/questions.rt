@@ -1,5 +1,3 @@
-//! Questions to the core beside events.
-
 use crate::proxy::Proxy;
 use anyhow::{Result, bail};
 use proxy_core::Core;
@@ -9,7 +7,6 @@ use test_reference::Reference;
 use test_rows::shown::shown;
 use test_rows::text::{first_word, number, unknown};
 
-// Their names.
 const QUESTIONS: [&str; 9] = [
     "hosts",
     "epoch",
@@ -22,7 +19,6 @@ const QUESTIONS: [&str; 9] = [
     "counts_of",
 ];
 
-/// Whether a question has this name.
 pub(crate) fn is_question(name: &str) -> bool {
     QUESTIONS.contains(&name)
 }

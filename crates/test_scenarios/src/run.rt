@@ -1,5 +1,3 @@
-//! A list of events for one call.
-
 use crate::answers::{answer_text, put_answer, refusal_text};
 use crate::events::event_of;
 use crate::outcome::outcome;
@@ -16,7 +14,6 @@ pub struct Run {
 }
 
 impl Run {
-    /// No events.
     pub(crate) fn new(alloc: Global) -> Run {
         Run {
             lines: Vec::new(alloc),

@@ -1,5 +1,3 @@
-//! The ring and the settings of a row's proxies.
-
 use anyhow::Result;
 use ketama::Ring;
 use proxy_core::{Core, Handover, Refusal, Settings};

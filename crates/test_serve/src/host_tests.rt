@@ -38,7 +38,7 @@ fn host<R: AllocGlobal + Wait>(rt: &R, listener: &net::TcpListener) -> io::Resul
     Ok(was_asked)
 }
 
-// Two hosts at the same time. True: both were asked.
+// True: both were asked.
 fn host_both<R: AllocGlobal + Threads + Wait + Sync>(
     rt: &R,
     one: &net::TcpListener,
@@ -48,7 +48,7 @@ fn host_both<R: AllocGlobal + Threads + Wait + Sync>(
     Ok(first? && second?)
 }
 
-// Serves two connections before these hosts. True: it ended well. A connection at the end releases a host that wasn't asked.
+// True: it ended well. A connection at the end releases a host that wasn't asked.
 fn serve_before<
     R: AllocGlobal
         + Threads
@@ -87,7 +87,7 @@ fn sets_and_gets(alloc: Global, first: u32) -> io::Result<(Vec<u8>, Vec<u8>)> {
     Ok((asked, wanted))
 }
 
-// A client that sends these commands. True: it got exactly these replies.
+// True: it got exactly these replies.
 fn set_and_get<R: Net<Listener = net::TcpListener, Stream = TcpStream> + AllocGlobal>(
     rt: &R,
     address: SocketAddr,
@@ -97,8 +97,8 @@ fn set_and_get<R: Net<Listener = net::TcpListener, Stream = TcpStream> + AllocGl
     Ok(say(rt, address, &asked)? == wanted)
 }
 
-// Serves two such clients at the same time before two hosts. Returns whether both hosts were asked, the server ended
-// well and each client got its replies; and the last line.
+// Two such clients at a time, before two hosts. Returns whether both hosts were asked, the server ended well and each
+// client got its replies; and the last line.
 fn play<
     R: AllocGlobal
         + Threads

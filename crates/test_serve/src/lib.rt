@@ -1,6 +1,5 @@
-//! Tests of `serve` that need marks of their own, or that the gate has to run, with all ends in one process on sockets
-//! of the loopback. Others test the operator's page for values that no run produces. It stands on `proxy_serve`. Begin
-//! with `rig.rt`.
+//! Tests of `serve` that need marks of their own, or that the gate has to run, with all ends in one process on
+//! sockets of the loopback; and of the operator's page. It stands on `proxy_serve`. Begin with `rig.rt`.
 #![tactic(auto)]
 
 #[cfg(test)]

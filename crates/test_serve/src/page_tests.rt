@@ -53,12 +53,10 @@ fn snapshot() -> Snapshot {
     }
 }
 
-// A request for the page.
 fn request(alloc: Global) -> Result<Request<Bytes>, Fail> {
     Ok(Request::get(alloc, "/metrics").body(Bytes::new())?)
 }
 
-// Whether the page has the lines.
 fn tells_lines(alloc: Global, request: &Request<Bytes>, response: &mut Response) -> bool
     requires { IsBlank response.old }
 {

@@ -1,4 +1,4 @@
-//! Generations of few steps, and of a full journal, with all ends in one process.
+//! Generations of few steps, and of a full journal.
 use crate::rig::{PING, PONG, anywhere, say, serve};
 use mio::net::TcpListener;
 use proxy_serve::Marks;
@@ -60,8 +60,8 @@ fn ask_each<R: Net<Listener = net::TcpListener, Stream = TcpStream> + AllocGloba
     Ok(all)
 }
 
-// Serves such clients with these marks: those of each list one after another, the two lists side by side. Returns the
-// number of answers of each, those of the second list last, and the last line.
+// Serves the two lists of clients side by side, those of a list one after another. Returns each number of answers,
+// and the last line.
 fn run<
     R: AllocGlobal
         + Threads
@@ -99,7 +99,7 @@ fn run<
     Ok((all, line))
 }
 
-// The number of commands that the last line counts as accepted and as handed out, if these are equal and no host was asked.
+// The accepted commands of the last line, if as many were handed out and no host was asked.
 fn handed(line: &[u8]) -> Option<u32> {
     let mut words = std::str::from_utf8(line).ok()?.split(' ');
     let accepted = words.nth(1)?;
@@ -172,7 +172,6 @@ fn full_journal_is_followed_by_another(rt: HostRuntime) -> Result<(), Fail> {
     Ok(())
 }
 
-// Three clients with twenty commands each, two of them side by side.
 #[test]
 fn three_clients_get_twenty_each(rt: HostRuntime) -> Result<(), Fail> {
     let (answered, line) = run(&rt, FEW, (PING, PONG.len()), (&[20, 20], &[20]))?;
@@ -181,7 +180,7 @@ fn three_clients_get_twenty_each(rt: HostRuntime) -> Result<(), Fail> {
     Ok(())
 }
 
-// Serves one connection, whose client sends this and closes its sending half. Returns the client's replies and the last line.
+// Serves one connection, whose client closes its sending half.
 fn close_half<
     R: AllocGlobal
         + Threads

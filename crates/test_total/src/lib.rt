@@ -1,7 +1,7 @@
-//! A small state for a gate: a running total.
+//! A small state for a gate: a running total, for tests and benchmarks.
 //!
-//! Tests and benchmarks of `ticket_gate` turn it. Its wrong bodies are those that a gate over an unknown state can't
-//! have. It stands on `ticket_gate` and `journal_core`. Begin with `running_total.rt`.
+//! Its wrong bodies are those that a gate over an unknown state can't have. It stands on `ticket_gate` and
+//! `journal_core`. Begin with `running_total.rt`.
 #![tactic(auto)]
 
 mod running_total;

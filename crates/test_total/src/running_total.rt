@@ -1,4 +1,3 @@
-//! A total with the journal of its additions.
 ghost use Rattle.std.specs.Prelude.{◌≡◌, ◌≤◌, []};
 ghost use Rattle.test_total.specs.Totals.{AreTotals, amount_sum, totals_at_first, totals_before};
 
@@ -13,13 +12,12 @@ pub enum AdditionRefusal {
     /// The total would pass its limit.
     #[error("the total would pass its limit")]
     PastLimit,
-    /// There was no memory for the journal.
+    /// There was no memory.
     #[error("there is no memory for the journal")]
     NoMemory,
 }
 
-/// A total of amounts within a limit, with the journal of its additions. An event is an amount, and its answer is the
-/// new total.
+/// A total of amounts within a limit, with its journal. An event is an amount, and its answer is the new total.
 #[derive(Drop)]
 pub struct RunningTotal {
     limit: u64,
@@ -51,7 +49,7 @@ impl RunningTotal {
         self.total
     }
 
-    /// The steps of the journal, the oldest first.
+    /// The journal's steps.
     pub fn steps(&self) -> &[Step<u64, u64>]
         ensures { result.now ≡ journal_of self.now }
     {
@@ -70,7 +68,6 @@ impl Recorded for RunningTotal {
 
     type Setting = u64;
 
-    /// The total.
     type Sight = u64;
 
     ghost journal = { journal_of };
