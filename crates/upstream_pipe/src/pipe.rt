@@ -119,7 +119,7 @@ impl Pipe {
         self.waiting.front()
     }
 
-    /// Makes room for this many more parts. Refused 601 (no memory).
+    /// Makes room for this many more parts. Refused 601 (no memory): the parts are unchanged, and there is no less room.
     pub fn room(&mut self, more: usize) -> Result<(), PipeRefusal>
         ensures { MakesRoom self.old self.new more result }
     {
@@ -167,7 +167,7 @@ impl Pipe {
 
     /// Takes a reply, and returns the owner of the oldest part that flies, unless it was forgotten.
     ///
-    /// Refused 603 (stale) if the epoch isn't the pipe's, and 604 (unasked) if no part flies.
+    /// Refused 603 (stale) exactly if the epoch isn't the pipe's, and 604 (unasked) exactly if it is and no part flies.
     pub fn answered(&mut self, epoch: u64) -> Result<Option<Owner>, PipeRefusal>
         ensures { TakesReply self.old self.new epoch result }
     {
@@ -184,7 +184,8 @@ impl Pipe {
 
     /// Ends the epoch by a fault, and begins the next. All parts are lost and returned.
     ///
-    /// Refused 603 (stale) if the epoch isn't the pipe's, else 605 (epochs spent), else 601 (no memory).
+    /// Refused 603 (stale) exactly if the epoch isn't the pipe's, else 605 exactly if it is the greatest `u64`, else 601 (no
+    /// memory). Then nothing has changed.
     pub fn fault(&mut self, epoch: u64) -> Result<Lost, PipeRefusal>
         ensures { EndsEpoch self.old self.new epoch result }
     {
