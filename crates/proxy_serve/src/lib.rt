@@ -14,12 +14,12 @@
 //! ```
 //!
 //! It stands on `proxy_rounds`, which has a generation's threads, on `proxy_connections`, which has a worker's clients and
-//! hosts, and on `proxy_server`. Begin with `serve` in `serve.rt`.
+//! hosts, and on `proxy_server`. Begin with `serve` in `serving.rt`.
 #![tactic(auto)]
 
 mod acceptor;
 mod generation_threads;
-mod serve;
+mod serving;
 mod signals;
 
 pub use proxy_admin::Admin;
@@ -27,4 +27,4 @@ pub use proxy_connections::{assigned_hosts_have_one_pass, passes_share_no_host};
 pub use proxy_generations::Marks;
 pub use proxy_rounds::ServeRuntime;
 pub use proxy_server::{Failure, Level, Log, Stop};
-pub use serve::{Options, serve, serve_run};
+pub use serving::{Options, serve, serve_run};

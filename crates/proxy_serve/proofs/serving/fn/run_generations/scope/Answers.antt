@@ -3,7 +3,7 @@ use Rattle.std.proofs.Crossing.{crosses}
 use Rattle.proxy_admin.proofs.CallerLemmas.{admin_send}
 use Rattle.proxy_rounds.proofs.CallerLemmas.{context_send}
 use Rattle.proxy_server.proofs.CallerLemmas.{due_send}
-use Rattle.proxy_serve.proofs.serve.fn.run_generations.scope.Goals as goal
+use Rattle.proxy_serve.proofs.serving.fn.run_generations.scope.Goals as goal
 
 pub spawn-begun-requires-send-F : goal.spawn-begun-requires-send-F
 spawn-begun-requires-send-F g c κs within = search (context_send, due_send, crosses, sendable) depth 60 fits 20000
