@@ -46,10 +46,10 @@ impl Model for Ejector {
 }
 
 impl Ejector {
-    /// An ejector without a mark.
+    /// An ejector of `n` hosts without a mark.
     ///
-    /// Refused 502 with the first field out of its range: `hosts` if `n` is 0 or over 64, then the settings in
-    /// their order. Else refused only 501 (no memory).
+    /// Refused 502 exactly if a field is out of its range, with the first such: `hosts` if `n` is 0 or over 64, then
+    /// the settings in their order. If none is, it is refused only 501, for want of memory.
     pub fn new(alloc: Global, n: usize, settings: Settings) -> Result<Ejector, EjectError>
         ensures made { IfOk result (λ e. (e.rules ≡ record { hosts = n; settings = settings })
             × (e.state ≡ fresh_state e.rules)) }
@@ -69,7 +69,10 @@ impl Ejector {
         })
     }
 
-    /// An ejector that starts from another's state. Refused only 501 (no memory).
+    /// An ejector that starts from another's state: its hosts and settings, its clock, which hosts are out and until
+    /// when, and multipliers, streaks and tallies.
+    ///
+    /// Refused only 501, for want of memory.
     pub fn new_from(alloc: Global, from: EjectState) -> Result<Ejector, EjectError>
         ensures made { IfOk result (λ e. e ≡ from) }
         ensures refused { IfErr result (λ e. e ≡ EjectError.NoMemory) }

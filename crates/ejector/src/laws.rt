@@ -30,7 +30,8 @@ pub fn out_until_time_is_over()
     ensures { OutUntilTimeIsOver }
 {}
 
-/// A sweep after the time of an ejected host brings it back. That sweep may eject it again.
+/// A sweep after the time of an ejected host brings it back. The host is out after that sweep
+/// exactly if the sweep ejected it again.
 pub fn back_once_time_is_over()
     ensures { BackOnceTimeIsOver }
 {}

@@ -45,7 +45,7 @@ impl Account {
     ghost use Rattle.journal_budget.specs.Counts.{no_counts};
     ghost use Rattle.journal_budget.specs.Payload.{average_of, HasRoomForCommand, HasRoomForReply};
 
-    /// Nothing is lent.
+    /// An account of no steps, to which nothing is lent.
     pub fn new() -> Account
         ensures { result ≡ no_account }
     {

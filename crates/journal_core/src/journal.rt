@@ -76,10 +76,11 @@ impl<E, A> Journal<E, A> {
         }
     }
 
-    /// Makes room for one step with this many bytes of payload, in place of room that wasn't used.
+    /// Makes room for one step with this many bytes of payload; the next call may be `add` with the same number. It
+    /// replaces room that wasn't used.
     ///
-    /// Refused 902 (journal full) if there are 262,144 steps or the bytes would pass 67,108,864, else 901 (no
-    /// memory).
+    /// Refused 902 (journal full) exactly if there are 262,144 steps or the bytes would pass 67,108,864, else 901 (no
+    /// memory). After a refusal the journal and its earlier room are unchanged.
     #[inline(always)]
     pub fn room(&mut self, bytes: u64) -> Result<(), JournalError>
         ensures room { OnOk result (self.new.room ≡ Some bytes) }

@@ -24,7 +24,10 @@ impl Model for HostName {
 }
 
 impl HostName {
-    /// The name with these bytes. Refused 305 unless they are 1 to 255 from 0x21 to 0x7E, and 301 (no memory).
+    /// The name with these bytes.
+    ///
+    /// It must have 1 to 255 bytes from 0x21 to 0x7E; otherwise it is refused with `BadName` (305).
+    /// Without memory for a copy of the bytes it is refused with `NoMemory` (301).
     pub fn read(alloc: Global, bytes: &[u8]) -> Result<HostName, RingError>
         ensures ok { IfOk result (λ name. name ≡ bytes.now) }
         ensures named { OnOk result (IsHostName bytes.now) }

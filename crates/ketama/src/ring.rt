@@ -37,12 +37,13 @@ impl Model for Ring {
 impl Ring {
     /// The ring of libketama for the hosts with these names and weights.
     ///
-    /// With `n` hosts and the sum of weights `W`, a host of weight `w` has `40 * n * w / W` digests, rounded down.
-    /// Digest `k`, from 0, of host `s` is the MD5 of the text `s-k`, which gives four points, the least significant
-    /// byte first.
+    /// With `n` hosts and the sum of weights `W`, a host of weight `w` has `40 * n * w / W` digests, rounded down: 40
+    /// where all weights are equal. Digest `k`, from 0, of the host with name `s` is the MD5 of the text `s-k`. It
+    /// gives four points of four bytes, the least significant first. A host of little weight may have no point, and
+    /// still counts among the hosts. A ring of no hosts has no points.
     ///
-    /// Refused, in this order: 303 with more than 64 names, 304 unless each has a weight from 1 to 100, 302 if two
-    /// are equal, and 301 (no memory).
+    /// Refused, in this order: `TooManyHosts` (303) with more than 64 names, `BadWeights` (304) unless each name has a
+    /// weight from 1 to 100, `SameName` (302) if two names are equal, and `NoMemory` (301).
     pub fn build(alloc: Global, names: &[HostName], weights: &[u32]) -> Result<Ring, RingError>
         ensures ok { IfOk result (IsKetamaRing names.now weights.now) }
 
@@ -73,10 +74,10 @@ impl Ring {
         })
     }
 
-    /// The ring of these points, each with its host's number.
+    /// The ring of these points, each with the number of its host, of `hosts` hosts.
     ///
-    /// Refused, in this order: 303 with more than 64 hosts, 306 if a number isn't below `hosts`, and 301 (no
-    /// memory).
+    /// Refused, in this order: `TooManyHosts` (303) with more than 64 hosts, `BadPoint` (306) if a host's number isn't
+    /// below `hosts`, and `NoMemory` (301).
     pub fn of_points(
         alloc: Global,
         hosts: usize,
@@ -120,8 +121,9 @@ impl Ring {
         self.digests
     }
 
-    /// The usable host of the least point at or above this one, or past the last point of the least of all. Of
-    /// equal points the lower host's counts. `None` if no usable host has a point.
+    /// The usable host that owns the point: the host of the least point at or above it, or past the
+    /// last point of the least of all. Of equal points the lower host's counts. `usable` says
+    /// whether each host is usable. `None` exactly if no usable host has a point. Takes no memory.
     pub fn owner(&self, point: u32, usable: &[bool]) -> Option<usize>
         requires { length usable.now ≡ self.now.hosts }
         ensures owner { IsOwner self.now.pairs point usable.now result }

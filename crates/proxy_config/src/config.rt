@@ -1,3 +1,4 @@
+//! The settings.
 ghost use Rattle.std.specs.Prelude.{◌≡◌, ◌⊎◌, ℕ, IfOk, IfErr, codes, map, max};
 ghost use Rattle.serde_json.specs.Errors.{IsMemory};
 ghost use Rattle.serde_json.specs.Find.{get};
@@ -22,59 +23,62 @@ use std::net::SocketAddr;
 /// A host.
 #[derive(Debug, Drop)]
 pub struct Host {
-    /// The text of its address, as the file has it: its name on the ring.
+    /// Its name on the ring: the text of its address, as the file has it.
     pub name: HostName,
 
     /// Its address.
     pub address: SocketAddr,
 }
 
-/// The settings, named as their keys in the file. `specs/Table` has their ranges and defaults.
+/// The settings, named as their keys in the file.
 #[derive(Debug)]
 pub struct Config {
-    /// The address for clients.
+    /// The address for clients. By default 127.0.0.1:6379.
     pub listen: SocketAddr,
 
-    /// 1 to 64 hosts with distinct names.
+    /// 1 to 64 hosts with distinct names. There is no default.
     pub hosts: Vec<Host>,
 
-    /// The weight of each host on the ring.
+    /// The weight of each host on the ring, from 1 to 100. By default 1 for each.
     pub weights: Vec<u32>,
 
-    /// The number of worker threads.
+    /// The number of worker threads, 1 to 64. By default 4.
     pub workers: u32,
 
-    /// A host's reply is late after this many milliseconds.
+    /// A host's reply is late after this many milliseconds, 1 to 600,000. By default 5,000.
     pub reply_ms: u32,
 
-    /// Whether keys are hashed by their hash tags.
+    /// Whether keys are hashed by their hash tags. By default they aren't.
     pub tags: bool,
 
-    /// Milliseconds between two sweeps of outlier detection.
+    /// The time between two sweeps of outlier detection, 1 to 3,600,000 milliseconds. By default
+    /// 10,000.
     pub interval_ms: u32,
 
-    /// Milliseconds of a first ejection.
+    /// The duration of a first ejection, 1 to 3,600,000 milliseconds. By default 30,000.
     pub base_ms: u32,
 
-    /// Milliseconds of the longest ejection.
+    /// The longest ejection, `base_ms` to 86,400,000 milliseconds. By default 300,000, or `base_ms` if that is more.
     pub max_ms: u32,
 
-    /// The percentage of hosts that may be ejected; one host always may.
+    /// The share of hosts that may be ejected, 0 to 100 percent; one host always may. By default 10.
     pub max_percent: u32,
 
-    /// A host trips after this many consecutive bad results; 0 turns this off.
+    /// A host trips after this many consecutive bad results, 0 to 1,000,000; 0 turns this off. By default 5.
     pub consecutive: u32,
 
-    /// Success rates are compared only if at least this many hosts have one.
+    /// Compare success rates only if at least this many hosts have one, 1 to 65; more than there
+    /// are hosts turns this off. By default 5.
     pub success_hosts: u32,
 
-    /// The results in an interval that give a host a success rate.
+    /// The results in an interval that give a host a success rate, 1 to 1,000,000. By default 100.
     pub request_volume: u32,
 
-    /// A rate is an outlier if further below the mean than this, in thousandths of the standard deviation.
+    /// A rate is an outlier if more than this far below the mean, in thousandths of the standard deviation, 0 to
+    /// 100,000. By default 1,900.
     pub factor: u32,
 
-    /// All hosts are used if fewer than this percentage is available; 0 turns this off.
+    /// Use all hosts if fewer than this share is available, 0 to 100 percent; 0 turns this off. By default 50.
     pub panic_percent: u32,
 }
 
@@ -103,10 +107,10 @@ impl Drop for Config {
 impl Config {
     /// The settings in the bytes of a file.
     ///
-    /// Refused with `Fault`: `json` if the bytes are no JSON object; else `unknown key` for a key that isn't in the
-    /// table; else the first key of the table, in its order, whose value is out of its range or of another type. Of a
-    /// repeated key the last one counts. Refused with `Memory`, in place of any other result, where memory is
-    /// refused.
+    /// Refused with `Fault` and its words: `json` if the bytes are no JSON object, else `unknown key` if it has a key
+    /// that isn't in the table. Else they are the first key of the table, in its order, whose value is out of its range
+    /// or of another type. Of a repeated key the last one counts. Refused with `Memory`, in place of any other result,
+    /// where memory is refused.
     pub fn read(alloc: Global, bytes: &[u8]) -> Result<Config, ConfigError>
         ensures ok { IfOk result (λ config. IsSettings bytes.now (values_of config)) }
         ensures parts { IfOk result
@@ -126,7 +130,8 @@ impl Config {
         Config::from_object(alloc, &file)
     }
 
-    /// The ring of the hosts, by their names and weights. Refused with `Memory` alone.
+    /// The ring of the hosts, by their names and weights. Settings that were read always have one.
+    /// Refused with `Memory` alone.
     pub fn ring(&self, alloc: Global) -> Result<Ring, ConfigError>
         requires { AreRingParts self.now.hosts.items self.now.weights.items }
         ensures ok { IfOk result
@@ -144,7 +149,7 @@ impl Config {
         }
     }
 
-    // This is the table, line by line.
+    // The settings of a JSON object: this is the table, line by line.
     fn from_object(alloc: Global, file: &Value) -> Result<Config, ConfigError>
         ensures ok { IfOk result (λ config. AllFit keys (view file.now) (values_of config)) }
         ensures refused { IfErr result (λ e. MemoryOr (IsFaultOf (view file.now)) e) }
@@ -184,6 +189,7 @@ impl Config {
     }
 }
 
+// The error for bytes that aren't JSON.
 fn told_of(error: &serde_json::Error) -> ConfigError
     ensures { (IsMemory error.now × (result ≡ ConfigError.Memory))
         ⊎ ((¬ IsMemory error.now) × IsFault result (codes "json")) }
@@ -194,7 +200,7 @@ fn told_of(error: &serde_json::Error) -> ConfigError
     ConfigError::Fault("json")
 }
 
-// At least `base_ms`.
+// The number at `max_ms`, which is at least `base_ms`.
 fn max_ms(file: &Value, base_ms: u32) -> Result<u32, ConfigError>
     ensures ok { IfOk result (λ n. IsNumberOr (max base_ms 300000) base_ms 86400000
         (get (name_of MaxMs) (view file.now)) n) }

@@ -89,6 +89,7 @@ enum ClientMoved {
     Waits,
 }
 
+/// What came of a client's round.
 #[derive(Clone, Copy, Drop)]
 pub enum Stepped {
     /// Nothing more can be done for now.

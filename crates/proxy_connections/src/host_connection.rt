@@ -61,8 +61,10 @@ enum HostMoved {
     Waits,
 }
 
+/// What came of a host's round.
 #[derive(Clone, Copy, Drop)]
 pub enum HostStepped {
+    /// Nothing is to be logged.
     Done,
     /// The host couldn't be reached, and this is to be logged.
     Unreachable,

@@ -293,8 +293,8 @@ impl<K: Keeping> CoreOf<K> {
         self.machine.pipelines.next_connection(host)
     }
 
-    /// Whether the connection is open and all parts of its oldest command have their values. Exactly then a
-    /// `Handed` for it has no cause of its own to be refused.
+    /// Whether the connection is open and all parts of its oldest command that isn't handed out have their values.
+    /// Exactly then an event `Handed` for it has no cause of its own to be refused.
     pub fn is_ready(&self, conn: u64) -> bool
         ensures ready { result ≡ (is_open conn (history_in self.now)
             && is_ready conn (past self.now.setting (history_in self.now))) }

@@ -444,10 +444,11 @@ impl<R: ReadTally, W: WriteTally> ClientEngine<R, W> {
 
     /// Does the first of these that applies: writes pending bytes once; hands out one reply; accepts the waiting
     /// request or the next complete one; reads at most 16,384 bytes once. It closes the connection once nothing more
-    /// arrives and all is handed out and written.
+    /// arrives and all is handed out and written. After [`drain`](ClientEngine::drain) no request is accepted and
+    /// nothing is read. A step of a closed connection does nothing.
     ///
-    /// Refused 1402 or 1403 where the reader or the writer failed; the connection was then closed. Refused 1401 (no
-    /// memory) or 1404 (turn refused); the next step continues at the same place.
+    /// Refused 1402 or 1403 where the reader or the writer failed in this call; the connection was then closed. Refused
+    /// 1401 for want of memory and 1404 where a turn was refused; the next step then continues at the same place.
     pub fn step<Rt: Wait, T: CoreTurns>(
         &mut self,
         rt: &Rt,
@@ -469,11 +470,11 @@ impl<R: ReadTally, W: WriteTally> ClientEngine<R, W> {
         }
     }
 
-    /// Accepts the waiting request, or the next one that has come whole, and does nothing else. So a pipeline that
-    /// has come whole is accepted before a reply is asked for. `Idle`: nothing more is accepted, too many commands
-    /// are unwritten, or none has come whole.
+    /// Accepts the waiting request, or the next one that has come whole, and hands out, writes and reads nothing.
+    /// `Moved`: it was accepted. `Idle`: nothing more is accepted, too many commands are unwritten, or none has come
+    /// whole. So a pipeline that has come whole is accepted before a reply is asked for.
     ///
-    /// Refused 1401 (no memory) or 1404 (turn refused); nothing is lost.
+    /// Refused 1401 for want of memory and 1404 where the turn was refused; nothing is lost.
     pub fn accept<Rt: Wait, T: CoreTurns>(
         &mut self,
         rt: &Rt,
@@ -528,7 +529,8 @@ impl<R: ReadTally, W: WriteTally> ClientEngine<R, W> {
         self.inbox.reader()
     }
 
-    /// The reader, for calls that read nothing for the engine.
+    /// The reader, for calls that read nothing for the engine. Where these leave its log as it was, the engine's facts
+    /// stay true.
     pub fn reader_mut(&mut self) -> &mut R
         ensures* writes_back { sem 𝓛 (lends_client_reader R.row W.row (record { told = R.told })
             (record { remaining = R.remaining }) (record { counts = R.counts })
@@ -548,7 +550,8 @@ impl<R: ReadTally, W: WriteTally> ClientEngine<R, W> {
         self.outbox.writer()
     }
 
-    /// The writer, for calls that write nothing for the engine.
+    /// The writer, for calls that write nothing for the engine. Where these leave its log as it was, the engine's facts
+    /// stay true.
     pub fn writer_mut(&mut self) -> &mut W
         ensures* writes_back { sem 𝓛 (lends_client_writer R.row W.row (record { told = R.told })
             (record { remaining = R.remaining }) (record { counts = R.counts })

@@ -126,7 +126,8 @@ impl<R: ReadTally + Drop, W: WriteTally + Drop> HostEngine<R, W> {
         }
     }
 
-    /// The link's reader, if there is a link, for calls that read nothing for the engine.
+    /// The link's reader, if there is a link, for calls that read nothing for the engine. Where these leave its log as
+    /// it was, the engine's facts stay true.
     pub fn reader_mut(&mut self) -> Option<&mut R>
         ensures* writes_back { sem 𝓛 (lends_host_reader R.row W.row (record { told = R.told })
             (record { remaining = R.remaining }) (record { counts = R.counts })
@@ -156,7 +157,8 @@ impl<R: ReadTally + Drop, W: WriteTally + Drop> HostEngine<R, W> {
         }
     }
 
-    /// The link's writer, if there is a link, for calls that write nothing for the engine.
+    /// The link's writer, if there is a link, for calls that write nothing for the engine. Where these leave its log as
+    /// it was, the engine's facts stay true.
     pub fn writer_mut(&mut self) -> Option<&mut W>
         ensures* writes_back { sem 𝓛 (lends_host_writer R.row W.row (record { told = R.told })
             (record { remaining = R.remaining }) (record { counts = R.counts })
@@ -232,8 +234,8 @@ impl<R: ReadTally + Drop, W: WriteTally + Drop> HostEngine<R, W> {
         self.record_fault(rt, turns, Kind::Refused, moment)
     }
 
-    /// Gives up the host's parts: one Failed turn of kind Dropped, or of the kind of a fault that isn't recorded yet.
-    /// A link is dropped, with a value that waits for its turn.
+    /// Gives up the host's parts: one Failed turn of kind Dropped, and a link is dropped. A fault that isn't recorded
+    /// yet gives its own kind instead. A value that waits for its turn is dropped with the link.
     ///
     /// Refused 1404: the next step makes that turn first.
     pub fn give_up<Rt: Wait, T: CoreTurns>(
@@ -383,11 +385,12 @@ impl<R: ReadTally + Drop, W: WriteTally + Drop> HostEngine<R, W> {
     }
 
     /// Sends at this moment, in milliseconds, and reads nothing: on a link it writes pending bytes once, or takes one
-    /// part if none are pending. So all parts that wait are sent before the link is read. `Idle`: the writer paused,
-    /// no part waits, there is no link, or an earlier fault is to be recorded first.
+    /// part if none are pending. `Moved`: the writer took bytes, or a part was taken. `Idle`: the writer paused, no part
+    /// waits, there is no link, or an earlier fault is to be recorded first. So all parts that wait are sent before the
+    /// link is read.
     ///
-    /// A failed write is a fault of kind Dropped, and refused 1403. Refused 1401 (no memory) or 1404 (turn refused);
-    /// the next call continues at the same place.
+    /// A failed write is a fault of kind Dropped, as in [`step`](HostEngine::step), and refused 1403. Refused 1401 for
+    /// want of memory and 1404 where a turn was refused; the next call then continues at the same place.
     pub fn send<Rt: Wait, T: CoreTurns>(
         &mut self,
         rt: &Rt,
@@ -406,14 +409,14 @@ impl<R: ReadTally + Drop, W: WriteTally + Drop> HostEngine<R, W> {
     }
 
     /// Makes a step at this moment, in milliseconds. It records an earlier fault. It writes pending bytes once, or
-    /// takes one part. On a link it makes a reply of each value read, reads once, and makes a reply of each value
-    /// that came. Last, a late reply is a fault.
+    /// takes one part. On a link it makes a reply of each value read, reads once, and makes a reply of each value that
+    /// came. Last, a late reply is a fault.
     ///
     /// A fault is recorded and the link dropped. It is Dropped at the end of the input or where a device failed,
     /// Garbled for a refused byte or an unasked value, or Late. `NeedsLink`: bytes are pending and there is no link.
     ///
-    /// Refused 1402 or 1403 where the reader or the writer failed; the fault was then recorded. Refused 1401 (no
-    /// memory) or 1404 (turn refused); the next step continues at the same place.
+    /// Refused 1402 or 1403 where the reader or the writer failed in this call; the fault was then recorded. Refused
+    /// 1401 for want of memory and 1404 where a turn was refused; the next step then continues at the same place.
     pub fn step<Rt: Wait, T: CoreTurns>(
         &mut self,
         rt: &Rt,

@@ -232,7 +232,9 @@ impl<H: Drop> Generations<H> {
         }
     }
 
-    /// Replaces the handover of the generation that is wanted. Otherwise this one comes back, and nothing changes.
+    /// The newest generation hands over anew, while the next one waits to be opened: that starts from this handover.
+    /// `None`: so it is. Otherwise the handover comes back, and nothing changes: `by` isn't the newest one, or the next one
+    /// isn't wanted or is being opened.
     pub fn renew(&mut self, by: u64, handover: H) -> Option<H>
         ensures tells { Tells (Renewed by handover) self.old self.new }
         ensures taken { (s : Settings) (es : List (Event H)) → Stands self.old s es

@@ -38,8 +38,8 @@ pub fn refusals_mean()
     ensures { RefusalsMean }
 {}
 
-/// Handing out is refused as not ready exactly if the connection is open and its next command is missing or has no
-/// outcome yet.
+/// Handing out is refused as not ready exactly if the connection is open and has no unwritten command, or the next of
+/// these has no outcome yet.
 pub fn not_ready_means()
     ensures { NotReadyMeans }
 {}
@@ -84,8 +84,9 @@ pub fn closed_gets_nothing()
     ensures { ClosedGetsNothing }
 {}
 
-/// Each part is one of a command that arrived. It has for good the host that owned its key at that time, or `no
-/// upstream host`, or `proxy busy` if 1,024 parts waited for that host.
+/// Each part is the part of its number of a command that arrived. It has for good the host that owned its key at that
+/// time, or `no upstream host` if there was none. It has `proxy busy` exactly if 1,024 parts waited for that host when
+/// its turn within its command came.
 pub fn parts_have_arrived()
     ensures { PartsHaveArrived }
 {}
@@ -137,7 +138,7 @@ pub fn values_are_own()
     ensures { ValuesAreOwn }
 {}
 
-/// An epoch is over exactly if its host had a fault in it.
+/// An epoch is over exactly if the history has a fault of its host in that epoch.
 pub fn epochs_end_by_faults()
     ensures { EpochsEndByFaults }
 {}
@@ -157,7 +158,8 @@ pub fn owners_stay()
     ensures { OwnersStay }
 {}
 
-/// Ejections change only the hosts of parts, and what answers say of hosts.
+/// Ejections change only the hosts of parts. Whatever outlier detection has seen, each event is refused or answered
+/// alike, except for the hosts of parts and for what the answer says of hosts.
 pub fn ejections_choose_hosts_alone()
     ensures { EjectionsChooseHostsAlone }
 {}

@@ -54,7 +54,8 @@ impl Sockets {
         }
     }
 
-    /// Counts a new socket. `false`: it is to be closed, since `MAX_SOCKETS` are open or none is accepted any more.
+    /// Counts a new socket. `true`: it is accepted and open. `false`: nothing changes, and it is to be closed, since
+    /// `MAX_SOCKETS` are open or none is accepted any more.
     pub fn accept(&mut self) -> bool
         ensures taken { IsTrue result ↔ MayOpen self.old }
         ensures counted { OnTrue result (self.new ≡ one_more_open self.old) }

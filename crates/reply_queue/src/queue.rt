@@ -62,11 +62,12 @@ impl Queue {
         }
     }
 
-    /// Accepts a command of 1 to 4,294,967,295 parts, exactly one for `Same`, and returns its index: the number of
-    /// commands accepted before.
+    /// Accepts a command of this many parts, whose values will be joined by `how`, and returns its index: the number of
+    /// commands accepted before. It reserves a place for each value. There must be 1 to 4,294,967,295 parts, and
+    /// exactly one for `Same`.
     ///
-    /// Refused 802 (crowded) with 1,024 commands accepted and not popped, else 803 (spent) if the index would be
-    /// the greatest `u64`, else 801 (no memory).
+    /// Refused 802 (crowded) exactly if 1,024 commands are accepted and not popped, else 803 (spent) exactly if the
+    /// index would be the greatest `u64`, else 801 (no memory).
     pub fn accept(&mut self, how: Join, parts: usize) -> Result<u64, QueueRefusal>
         requires join { MayJoin how parts }
         requires parts { parts < 2 ^ 32 }
@@ -136,8 +137,10 @@ impl Queue {
         self.commands.len()
     }
 
-    /// Removes the oldest command, and returns its reply, the join of its parts' values; `None` if a value is
-    /// missing. Refused 801 (no memory).
+    /// Removes the oldest command, and returns its reply: the join of its parts' values. `None` exactly if there is no
+    /// command or a part of the oldest has no value.
+    ///
+    /// Refused 801 (no memory), only if there is a reply.
     pub fn pop(&mut self) -> Result<Option<Value>, QueueRefusal>
         ensures reply { IfOk result
             (λ reply. option_map tree_of reply ≡ front_reply self.old.commands) }
@@ -154,7 +157,10 @@ impl Queue {
         Ok(reply)
     }
 
-    /// The result that `pop` would have. Refused 801 (no memory).
+    /// The result that `pop` would have: the reply to the oldest command, or `None` exactly if there is no command or a
+    /// part of the oldest has no value. It changes nothing.
+    ///
+    /// Refused 801 (no memory), only if there is a reply.
     pub fn front(&self) -> Result<Option<Value>, QueueRefusal>
         ensures reply { IfOk result
             (λ reply. option_map tree_of reply ≡ front_reply self.now.commands) }
@@ -167,7 +173,9 @@ impl Queue {
         }
     }
 
-    /// The reply to the oldest command, if it is the value of its only part (`Same`).
+    /// The reply to the oldest command, if it is the value of the command's only part (`Same`). `None` exactly if there
+    /// is no command, its values are joined otherwise, or its value hasn't come. It shares nothing, and takes no
+    /// memory.
     pub fn same_front(&self) -> Option<&Value>
         ensures reply { option_map tree_of (option_copied result)
             ≡ same_front_reply self.now.commands }

@@ -120,7 +120,8 @@ impl Reader {
 
     /// Takes the next piece of the stream.
     ///
-    /// Refused 101 (no memory): nothing has changed. Refused 102 to 107 like `next_value` before.
+    /// Refused 101 (no memory): nothing has changed, and the piece may be fed again. Refused by 102 to 107 once
+    /// `next_value` has returned that refusal.
     pub fn feed(&mut self, piece: &[u8]) -> Result<(), RespError>
         ensures ok { OnOk result ((b : List ℕ) (ts : List Tree) → Stands self.old b ts
             → Stands self.new (b ++ piece.now) ts) }
@@ -140,10 +141,11 @@ impl Reader {
         Ok(())
     }
 
-    /// The next value as its text, if it is a complete command in its one spelling: at most nine words, each of
-    /// less than 1,000 bytes, in at most 512 bytes.
+    /// The next value as its text, if it is a short command in its one spelling that has come completely: at most nine
+    /// words, each of less than 1,000 bytes, in at most 512 bytes.
     ///
-    /// `None`, or refused only for want of memory: nothing has changed.
+    /// `None`: it isn't known to be such a command, nothing has changed, and `next_value` reads on. Refused only for want of
+    /// memory: nothing has changed.
     pub fn next_spelled(&mut self) -> Result<Option<SpelledCommand>, AllocError>
         ensures value { IfOk result (λ o. IfSome o (λ c. (b : List ℕ) (ts : List Tree)
             → Stands self.old b ts
@@ -174,9 +176,10 @@ impl Reader {
 
     /// The next complete value, or `None` if it hasn't come completely.
     ///
-    /// Refused 101 (no memory): the next call continues. Refused 102 to 107, after all values before it, at the
-    /// first byte with which the value is no beginning of a text, or at its byte 8,388,609; of two such numbers,
-    /// the lower. From then on the reader holds no bytes, and `feed` and `next_value` return the same refusal.
+    /// Refused 101 (no memory): bytes and values are as before, and the next call continues. Refused 102 to 107 at the
+    /// first byte with which the unfinished value is no beginning of a text, or at its byte 8,388,609, after all values
+    /// before it. Where two of these numbers fit at that byte, the lower one is returned. From then on the reader holds
+    /// no bytes, and `feed` and `next_value` return the same refusal.
     pub fn next_value(&mut self) -> Result<Option<Value>, RespError>
         ensures value { IfOk result (λ o. IfSome o (λ v. (b : List ℕ) (ts : List Tree)
             → Stands self.old b ts

@@ -35,7 +35,8 @@ pub fn joins_of_plain_values_are_plain()
     ensures { JoinsOfPlainValuesArePlain }
 {}
 
-/// A client's stream gives one list of requests: its values, and a broken one if the next byte is refused.
+/// The bytes of a client's stream give one list of requests: its values in order, followed by a broken one if the next
+/// byte is refused.
 pub fn streams_ask_one_list()
     ensures some { EachStreamAsks }
     ensures one { OneAsking }

@@ -48,8 +48,8 @@ fn owned(alloc: Global, planned: Planned<'_>) -> Result<Plan, SplitError>
     }
 }
 
-/// The same, for one request of many. The parts' texts are written to `texts`. A command that stays whole lends its
-/// key. `text_len` is `Request::text_len`; a wrong number doesn't change the plan.
+/// The same, for one request of many: the parts' texts are written to `texts`, and a command that stays whole lends
+/// its key. `text_len` is `Request::text_len`; a wrong number doesn't change the plan. Refused 701 (no memory).
 pub fn plan_with<'a>(
     alloc: Global,
     texts: &mut Texts,

@@ -1,3 +1,4 @@
+//! One sweep, which is one turn of a core.
 ghost use Rattle.std.specs.Prelude.{◌≡◌, IfOk, IfErr};
 ghost use Rattle.ticket_gate.specs.Journal.{AddsTurn};
 ghost use Rattle.proxy_history.specs.Answer.{counts_of};
@@ -37,10 +38,14 @@ impl SweepRefusal {
     }
 }
 
-/// Makes a sweep at this moment in milliseconds, as one turn. Returns the numbers of hosts that it returned, ejected,
-/// and let stay though they tripped.
+/// Makes one turn: a sweep at this moment in milliseconds. Returns the numbers of hosts that it
+/// returned, ejected, and let stay though they tripped.
 ///
-/// Refused 1001, 1002 or 1202: the pass has no further step.
+/// Answered: the pass now sees a legal journal, which begins with what it saw before and ends with
+/// this sweep and this answer. Of its own steps only that one is new. Refused `NoMemory` (1001) or
+/// `JournalFull` (1002) by the core: that has its cause over what the pass now sees, which has no
+/// further step of the pass. Refused `Spent` (1202) where no ticket is left: the pass has seen
+/// nothing new.
 pub fn sweep_once<R: Wait, T: CoreTurns>(
     rt: &R,
     turns: &mut T,
@@ -73,7 +78,7 @@ pub fn sweep_once<R: Wait, T: CoreTurns>(
     }
 }
 
-// A refusal for want of tickets has no cause.
+// The turn of a sweep. A refusal for want of tickets has no cause.
 fn ask_sweep<R: Wait, T: CoreTurns>(
     rt: &R,
     turns: &mut T,

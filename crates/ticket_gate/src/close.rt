@@ -8,7 +8,9 @@ use crate::recorded::Recorded;
 impl<S: Recorded> Gate<S> {
     /// Ends the gate, and returns its state if each ticket drawn has been served.
     ///
-    /// Its journal is legal, and begins with what the pass has seen.
+    /// The state has the gate's setting. Its journal is legal, begins with what the pass has seen,
+    /// and has exactly the pass's steps that it has seen. Once all calls at the gate have returned,
+    /// no ticket is out.
     pub fn close(self, pass: Pass<S>) -> Option<S>
     where
         S: Drop,

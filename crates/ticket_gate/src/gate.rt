@@ -98,8 +98,9 @@ impl<S: Recorded> Pass<S> {
 }
 
 impl<S: Recorded> Gate<S> {
-    /// A gate around a state with an empty journal, and its first spare place. Refused `NoMemory` (1204), with the
-    /// state.
+    /// A gate around a state with an empty journal, and its first spare place. Tickets begin at 0.
+    ///
+    /// Where memory is refused it returns `NoMemory` (1204) with the state unchanged.
     pub fn new(alloc: Global, state: S) -> Result<(Gate<S>, Spare<S>), (GateRefusal, S)>
         requires { S.journal state ≡ [] }
         ensures gate { IfOk result (λ made. (made.0.setting ≡ S.setting state)

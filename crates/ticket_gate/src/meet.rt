@@ -7,8 +7,11 @@ use crate::recorded::Recorded;
 use crate::steps::{ComparePasses, PairPasses};
 
 impl<S: Recorded> Gate<S> {
-    /// Returns both passes in their order. What they have seen is now known to be of one journal: one begins with
-    /// the other.
+    /// Returns both passes in their order. What they have seen is now known to be of one journal.
+    /// Their numbers differ, and one journal begins with the other. The longer one is legal, and
+    /// has exactly the steps of each pass that it has seen.
+    ///
+    /// No number and no seen journal changes. It takes no memory and never waits.
     pub fn meet(&self, first: Pass<S>, second: Pass<S>) -> (Pass<S>, Pass<S>)
         requires { IsPassOf self.now first × IsPassOf self.now second }
         ensures same { IsSamePass first result.0 × IsSamePass second result.1 }

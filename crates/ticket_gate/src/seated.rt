@@ -116,7 +116,11 @@ impl<'a, S: Recorded> Seated<'a, S> {
     ghost use Rattle.ticket_gate.specs.Journal.{GrowsByOthers};
     ghost use Rattle.ticket_gate.specs.declared.refusal.TurnRefusal.TheVariants.{Spent};
 
-    /// Looks at the state, as `Gate::sight` does. Afterwards the pass is outside. Refused only `Spent` (1202).
+    /// Looks at the state inside the gate, as `Gate::sight` does, and adds no step to its journal.
+    /// Afterwards the pass is outside.
+    ///
+    /// Answered: the sight is that of the journal that the pass now sees. Refused only `Spent`
+    /// (1202), once all tickets were drawn: the pass has seen nothing new.
     pub fn sight<R: Wait>(&mut self, rt: &R) -> Result<S::Sight, TurnRefusal<S::Refusal, ()>>
         ensures gate { self.new.gate ≡ self.old.gate }
         ensures same { IsSamePass self.old.pass self.new.pass }

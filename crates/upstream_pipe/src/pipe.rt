@@ -1,3 +1,4 @@
+//! The pipe to one host.
 ghost use Rattle.std.specs.Prelude.{◌≡◌, ◌≤◌, ◌+◌, ◌^◌, ◌-◌, ◌∷◌, ◌++◌, [], List, ℕ, Option, Some, length, map, min, filter, slice_get, IsOk, IfOk, IfErr, IfSome, IfNone};
 ghost use Rattle.std.specs.Option.{option_copied, option_and_then};
 ghost use Rattle.std.specs.VecDeque.{deque_len, deque_capacity};
@@ -12,8 +13,10 @@ use std::alloc::Global;
 use std::collections::VecDeque;
 use std::marker::Model;
 
-/// The parts that wait for one host, and the owners of those that fly, sent in this epoch without a reply. Only
-/// `room`, `push` and `fault` take memory.
+/// The pipe to one host: the parts that wait, and the owners of the parts that fly, sent in this epoch without a reply.
+///
+/// Contracts see these, the epoch, the number of parts taken in it, and the number of further parts that there is memory
+/// for.
 pub struct Pipe {
     alloc: Global,
     waiting: VecDeque<Part>,
@@ -73,21 +76,21 @@ impl Pipe {
         }
     }
 
-    /// The number of faults so far.
+    /// The number of faults so far. It takes no memory.
     pub fn epoch(&self) -> u64
         ensures { result ≡ self.now.epoch }
     {
         self.epoch
     }
 
-    /// The parts taken in this epoch, or the greatest `u64`.
+    /// The number of parts taken in this epoch, or the greatest `u64` if there were more. It takes no memory.
     pub fn taken(&self) -> u64
         ensures { result ≡ self.now.taken }
     {
         self.taken
     }
 
-    /// The parts that wait, at most 1,024.
+    /// The number of parts that wait, at most 1,024. It takes no memory.
     pub fn waiting(&self) -> usize
         ensures parts { result ≡ length self.now.waiting }
         ensures limit { result ≤ MAX_WAITING }
@@ -95,14 +98,15 @@ impl Pipe {
         self.waiting.len()
     }
 
-    /// The parts that fly, with forgotten ones.
+    /// The number of parts that fly, with forgotten ones. It takes no memory.
     pub fn flying(&self) -> usize
         ensures { result ≡ length self.now.flying }
     {
         self.flying.len()
     }
 
-    /// The owner to which the next reply belongs, if any.
+    /// The owner of the part to which the next reply of this epoch belongs: `None` if no part flies, or if that part was
+    /// forgotten. It takes no memory.
     pub fn next_owner(&self) -> Option<Owner>
         ensures { result ≡ option_and_then (λ place. place) (slice_get self.now.flying 0) }
     {
@@ -112,14 +116,17 @@ impl Pipe {
         }
     }
 
-    /// The part that `take` would return.
+    /// The part that `take` would return. It takes no memory.
     pub fn oldest(&self) -> Option<&Part>
         ensures { option_copied result ≡ slice_get self.now.waiting 0 }
     {
         self.waiting.front()
     }
 
-    /// Makes room for this many more parts. Refused 601 (no memory): the parts are unchanged, and there is no less room.
+    /// Makes room for this many more parts, so that the next calls of `push` take no memory. If there is room already,
+    /// it takes none and is Ok.
+    ///
+    /// Refused 601 (no memory): the parts are unchanged, and there is no less room.
     pub fn room(&mut self, more: usize) -> Result<(), PipeRefusal>
         ensures { MakesRoom self.old self.new more result }
     {
@@ -128,8 +135,9 @@ impl Pipe {
         Ok(())
     }
 
-    /// Queues a part. Refused 602 (full) if 1,024 wait, or 601 (no memory), unless there is room. The part comes
-    /// back.
+    /// Queues a part, and reserves its place for flying.
+    ///
+    /// Refused 602 (full) if 1,024 parts wait, or 601 (no memory), which can't come if there is room. The part comes back.
     pub fn push(&mut self, part: Part) -> Result<(), (PipeRefusal, Part)>
         ensures { Pushes self.old self.new part result }
     {
@@ -145,7 +153,7 @@ impl Pipe {
         }
     }
 
-    /// Takes the oldest waiting part, which flies from now on.
+    /// Takes the oldest waiting part, which flies from now on; `None` if none waits. It takes no memory.
     pub fn take(&mut self) -> Option<Part>
         ensures none { IfNone result ((self.old.waiting ≡ []) × IsAsBefore self.old self.new) }
         ensures waiting { IfSome result (λ part. self.old.waiting ≡ part ∷ self.new.waiting) }
@@ -165,7 +173,8 @@ impl Pipe {
         Some(part)
     }
 
-    /// Takes a reply, and returns the owner of the oldest part that flies, unless it was forgotten.
+    /// Takes a reply of this epoch, and returns the owner of its part: the one sent `count`-th in the epoch, where
+    /// `count` replies came before. `None` if that part was forgotten. It takes no memory.
     ///
     /// Refused 603 (stale) exactly if the epoch isn't the pipe's, and 604 (unasked) exactly if it is and no part flies.
     pub fn answered(&mut self, epoch: u64) -> Result<Option<Owner>, PipeRefusal>
@@ -182,10 +191,10 @@ impl Pipe {
         Ok(owner)
     }
 
-    /// Ends the epoch by a fault, and begins the next. All parts are lost and returned.
+    /// Ends the epoch by a fault of the host: all parts that fly or wait are lost and returned, and the epoch rises by one.
     ///
-    /// Refused 603 (stale) exactly if the epoch isn't the pipe's, else 605 exactly if it is the greatest `u64`, else 601 (no
-    /// memory). Then nothing has changed.
+    /// Refused 603 (stale) exactly if the epoch isn't the pipe's, else 605 (epochs spent) exactly if it is the greatest
+    /// `u64`, else 601 (no memory). If no part flies or waits it takes no memory, and 601 doesn't come.
     pub fn fault(&mut self, epoch: u64) -> Result<Lost, PipeRefusal>
         ensures { EndsEpoch self.old self.new epoch result }
     {
@@ -206,7 +215,8 @@ impl Pipe {
         Ok(Lost { flying, waiting })
     }
 
-    /// Forgets a connection: its waiting parts are dropped, and its flying ones lose their owner.
+    /// Forgets a connection: its waiting parts are dropped, and its flying ones keep their places without an owner, so
+    /// that their replies are discarded. It takes no memory.
     pub fn forget(&mut self, conn: u64)
         ensures waiting { self.new.waiting ≡ filter (is_kept conn) self.old.waiting }
         ensures flying { self.new.flying ≡ map (forgotten_owner conn) self.old.flying }
@@ -221,6 +231,7 @@ impl Pipe {
     }
 }
 
+// Drops the parts of the connection.
 fn forget_waiting(waiting: &mut VecDeque<Part>, conn: u64)
     ensures items { waiting.new.items ≡ filter (is_kept conn) waiting.old.items }
     ensures len { deque_len waiting.new ≤ deque_len waiting.old }
@@ -229,6 +240,7 @@ fn forget_waiting(waiting: &mut VecDeque<Part>, conn: u64)
     waiting.retain(|part| part.owner.conn != conn);
 }
 
+// Removes the owner from each place of the connection.
 fn forget_flying(flying: &mut VecDeque<Option<Owner>>, conn: u64)
     ensures items { flying.new.items ≡ map (forgotten_owner conn) flying.old.items }
     ensures len { deque_len flying.new ≡ deque_len flying.old }
@@ -241,6 +253,7 @@ fn forget_flying(flying: &mut VecDeque<Option<Owner>>, conn: u64)
     }
 }
 
+// The place, without its owner if it is of the connection.
 fn forgotten(conn: u64, place: Option<Owner>) -> Option<Owner>
     ensures { result ≡ forgotten_owner conn place }
 {
@@ -250,6 +263,7 @@ fn forgotten(conn: u64, place: Option<Owner>) -> Option<Owner>
     }
 }
 
+// The owners of the parts.
 fn owners(alloc: Global, parts: &VecDeque<Part>) -> Result<Vec<Owner>, PipeRefusal>
     ensures ok { IfOk result (λ owners. owners.items ≡ map owner_in parts.now.items) }
     ensures none { parts.now.items ≡ [] → IsOk result }
@@ -262,6 +276,7 @@ fn owners(alloc: Global, parts: &VecDeque<Part>) -> Result<Vec<Owner>, PipeRefus
     Ok(owners)
 }
 
+// The places, copied.
 fn places(
     alloc: Global,
     flying: &VecDeque<Option<Owner>>,
