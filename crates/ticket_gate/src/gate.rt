@@ -19,6 +19,7 @@ pub(crate) const ENROLLED: usize = 2;
 /// It is empty only while a place inside works on the state.
 pub(crate) const STATE: usize = 0;
 
+/// The view of a seat at a gate of this state.
 pub type SeatView<S> = View<
     <S as Recorded>::Event,
     <S as Recorded>::Answer,
