@@ -127,8 +127,9 @@ class Proxy:
         words = [*before, program, "serve", "--config", self.file, *after]
         if connections:
             words += ["--connections", str(connections)]
-        self.errors = open(os.path.join(self.room, "errors"), "w+", encoding="utf-8")
-        self.output = open(os.path.join(self.room, "output"), "w+", encoding="utf-8")
+        # (it appends: where `told` has moved the place that both share, a line would be written over another)
+        self.errors = open(os.path.join(self.room, "errors"), "a+", encoding="utf-8")
+        self.output = open(os.path.join(self.room, "output"), "a+", encoding="utf-8")
         self.process = start(words, stdout=self.output, stderr=self.errors, env={**os.environ, **(environment or {})})
 
     def __enter__(self):

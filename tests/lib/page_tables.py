@@ -64,7 +64,7 @@ def differences_of_numbers():
 
 def settings_in_code():
     """Least, most and default of each number, as texts."""
-    source = text_of("crates", "proxy_config", "src", "config.rt")
+    source = text_of("crates", "proxy_config", "src", "table.rt")
     found = {}
     for key, least, most, default in re.findall(r'number\(file, "(\w+)", ([\w.]+), ([\w.]+), ([\w.]+(?:\([\w.]+\))?)\)', source):
         found[key] = (least.replace("_", "") if least[0].isdigit() else least, plain(most), default)
@@ -79,7 +79,7 @@ def differences_of_settings():
         yield f"OPERATING has the settings {list(table)}, and redproxy.json {list(sample)}"
     for key in sample:
         if key not in code and key not in OTHERS:
-            yield f"config.rt has no number {key}"
+            yield f"table.rt has no number {key}"
         if key not in manual:
             yield f"the manual page lacks {key}"
     for key, (least, most, default) in code.items():
@@ -143,13 +143,17 @@ def differences_of_crates():
 
 
 def differences_of_drawings():
-    """Each name of code in a drawing: in ARCHITECTURE's, and in those at the head of a source."""
+    """Each name of code and each file in a drawing: in ARCHITECTURE's, and in those at the head of a source."""
     texts = sources.sources(but=())
     code = {word for _, text in texts for word in re.findall(r"\w+", re.sub(r"(?m)//.*$", "", text))} | {*sources.crates()}
+    paths = sources.paths()
     drawings = [("ARCHITECTURE", drawn) for drawn in re.findall(r"```\n(.*?)```", text_of("docs", "ARCHITECTURE.md"), re.S)]
     for crate, text in texts:
         drawings += [(crate, drawn) for drawn in re.findall(r"//! ```text\n(.*?)//! ```", text, re.S)]
     for where, drawn in drawings:
+        for file in sorted({*re.findall(r"[\w/]+\.rt", drawn)}):
+            if not any(path.endswith("/" + file) for path in paths):
+                yield f"{where} draws a file that isn't there: {file}"
         # (words that only code is made of: with a line below, or with a second capital)
         drawn = re.sub(r"[\w/]+\.rt", "", drawn)
         for name in sorted({*re.findall(r"\b(?:\w+_\w+|[A-Z][a-z]+[A-Z]\w*|\w+::\w+)\b", drawn)}):

@@ -31,6 +31,12 @@ def sources(but=PLAIN):
     return [(crate, text) for crate in crates(but) for _, text in files_of(crate, "src", ".rt")]
 
 
+def paths():
+    """The path of each source of a crate."""
+    return [os.path.join(at, name) for crate in crates() for at, _, names in os.walk(os.path.join(CRATES, crate, "src"))
+            for name in names]
+
+
 def named_by():
     """What each line of crates.txt names, by its crate."""
     lines = (line.split(":") for line in text_of(os.path.join(TOP, "crates.txt")).split("\n") if ":" in line and line[0] != "#")

@@ -1,4 +1,4 @@
-//! Turns of 1, 2, 4 and 8 threads on one running total, at a ticket gate and under std's `Mutex`.
+//! The speed of the gate, beside that of std's `Mutex`.
 ghost use Rattle.std.specs.Prelude.{◌≡◌, [], IfOk};
 ghost use Rattle.ticket_gate.specs.Gate.{IsSpareOf};
 
@@ -15,10 +15,10 @@ use ticket_gate::{Gate, Recorded, Seated, Spare, Turns};
 
 const THREADS: [usize; 4] = [1, 2, 4, 8];
 
-/// If nothing is timed.
+/// The turns of a trial that isn't timed.
 const FEW_TURNS: u64 = 20_000;
 
-/// If they are timed.
+/// The turns of a timed trial.
 const MANY_TURNS: u64 = 400_000;
 
 /// Work of some 200 ns.
@@ -51,7 +51,6 @@ const STOPPING: TurnWork = TurnWork {
     stops: true,
 };
 
-/// The timed work, by name.
 const TIMED: [(&str, Work); 4] = [
     ("no work", NO_WORK),
     (
@@ -77,7 +76,6 @@ const TIMED: [(&str, Work); 4] = [
     ),
 ];
 
-/// Turns shared among threads.
 #[derive(Clone, Copy)]
 struct Trial {
     threads: usize,
@@ -85,7 +83,6 @@ struct Trial {
     work: Work,
 }
 
-// Adds 1 `times` times, and works after each turn.
 fn make_turns<T: Turns<Event = u64, Answer = u64, Refusal = AdditionRefusal>, R: Wait>(
     rt: &R,
     turns: &mut T,
@@ -140,7 +137,7 @@ impl Trial {
         self.turns / (self.threads as u64).max(1)
     }
 
-    /// Makes the turns at a gate, each thread with its own pass. Returns the journal's length.
+    /// Each thread has its own pass. Returns the journal's length.
     fn at_a_gate<R: Threads + Wait + Sync>(&self, rt: &R, alloc: Global) -> Result<usize> {
         let (gate, spare) = open(alloc, Laden::new(alloc, self.work.inside))?;
         let (mine, spare) = gate.split(spare);
@@ -164,7 +161,7 @@ impl Trial {
         }
     }
 
-    /// Makes the turns under a mutex. Returns the journal's length.
+    /// Returns the journal's length.
     fn under_a_mutex<R: Threads + Wait + Sync>(&self, rt: &R, alloc: Global) -> Result<usize> {
         let state = Mutex::new(Laden::new(alloc, self.work.inside));
         let mut passes = Vec::new(alloc);
@@ -222,7 +219,7 @@ fn per_second(turns: usize, time: Duration) -> u128 {
     turns as u128 * 1_000_000_000 / time.as_nanos().max(1)
 }
 
-/// Few turns by each number of threads both ways; prints the lengths of the journals.
+/// Prints the lengths of the journals.
 pub(crate) fn print_few<R: Threads + Wait + Sync + Print>(rt: &R, alloc: Global) -> Result<()> {
     for threads in THREADS {
         let few = Trial {
@@ -237,7 +234,7 @@ pub(crate) fn print_few<R: Threads + Wait + Sync + Print>(rt: &R, alloc: Global)
     Ok(())
 }
 
-/// Many turns by each number of threads both ways; prints the turns a second.
+/// Prints the turns a second.
 pub(crate) fn print_speeds<R: Threads + Wait + Sync + Clock + Print>(
     rt: &R,
     alloc: Global,

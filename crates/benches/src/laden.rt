@@ -41,7 +41,6 @@ impl Laden {
         }
     }
 
-    /// The number of answered turns.
     pub(crate) fn turns(&self) -> usize {
         self.total.steps().len()
     }

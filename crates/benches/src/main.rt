@@ -28,7 +28,6 @@ enum Asked {
 }
 
 impl Asked {
-    // Chooses by the first two words.
     fn of(part: Option<String>, figure: Option<String>) -> Asked {
         let part = part.as_ref().map_or("", |word| word.as_str());
         let figure = figure.as_ref().map_or("", |word| word.as_str());

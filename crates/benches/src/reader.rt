@@ -8,10 +8,8 @@ use std::time::{Duration, Instant};
 
 const PIECES: [usize; 2] = [16_384, 1];
 
-// Texts, each repeated this many times.
 type Repeated = &'static [(&'static [u8], usize)];
 
-/// A stream: its head, and a repeated text.
 #[derive(Clone, Copy)]
 struct Stream {
     name: &'static str,
@@ -78,7 +76,6 @@ fn print_pieces<R: Clock + Print>(rt: &R, alloc: Global, name: &str, bytes: &[u8
     Ok(())
 }
 
-// Prints the speeds of reading and of copying.
 fn print_speeds<R: Print>(
     rt: &R,
     name: &str,
@@ -139,7 +136,6 @@ fn read_with(
     Ok(())
 }
 
-// Takes the values that a piece of this length has completed.
 fn take_values(reader: &mut Reader, most: usize) -> std::result::Result<(), RespError> {
     for _ in 0..=most {
         let value = reader.next_value()?;

@@ -34,7 +34,7 @@ pub struct Settings {
 pub struct Rules {
     /// The number of hosts.
     pub hosts: usize,
-    /// The settings.
+    /// When a host is ejected, and for how long.
     pub settings: Settings,
 }
 

@@ -32,3 +32,12 @@ Settles post may b s = (work : _) → IsBegun post may work b → IsSettled may 
 -- whatever work is settled so may give this answer
 abbrev pub Answers : {Rt K : Type 0} → (K → WorkResult → Type 0) → Settled Rt K → WorkResult → Type 0
 Answers may s answer = (work : _) → IsSettled may work s → may work answer
+
+-- What makes the calls of works: each fresh work gets one.
+pub record MakesCalls {K F G : Type 0} (is_fresh : K → Type 0) (may : K → WorkResult → Type 0) (make_pre : G → K → Type 0)
+    (make_post : G → K → F → Type 0) (pre : F → Type 0) (post : F → WorkResult → Type 0) (make : G) : Type 0 where
+  pub takes : (work : K) → is_fresh work → make_pre make work
+  -- it may be made,
+  pub callable : (work : K) (call : F) → is_fresh work → make_post make work call → pre call
+  -- and answers as its work may
+  pub answers : (work : K) (call : F) (answer : WorkResult) → make_post make work call → post call answer → may work answer

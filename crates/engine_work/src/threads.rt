@@ -1,6 +1,6 @@
 ghost use Rattle.std.specs.Prelude.{◌≡◌, ◌≤◌, IfOk, IfErr, vec_len, vec_capacity, ⊤, [], Result, All};
 ghost use Rattle.std.specs.List.{AllZip};
-ghost use Rattle.engine_work.specs.Works.{Answers, IsBegun, IsCallable, Settles};
+ghost use Rattle.engine_work.specs.Works.{Answers, IsBegun, IsCallable, MakesCalls, Settles};
 ghost use Rattle.engine_work.specs.declared.error.EngineError.{EngineError};
 
 use crate::error::EngineError;
@@ -120,11 +120,7 @@ fn begin_all<
     requires empty { room.items ≡ [] }
     requires room { vec_len works ≤ vec_capacity room }
     requires fresh { All K.is_fresh works.items }
-    requires makes { (work : K) → K.is_fresh work → G.pre make work }
-    requires callable { (work : K) (call : F) → K.is_fresh work → G.post make work call
-        → F.pre call }
-    requires answers { (work : K) (call : F) (answer : Result ⊤ EngineError)
-        → G.post make work call → F.post call answer → K.may_answer work answer }
+    requires makes { MakesCalls K.is_fresh K.may_answer G.pre G.post F.pre F.post make }
     ensures callable { All (IsCallable F.pre) result.items }
     ensures begun { AllZip (IsBegun F.post K.may_answer) works.items result.items }
     ensures len { vec_len result ≡ vec_len works }
@@ -233,11 +229,7 @@ fn run_in<
     requires settled { (lists.settled.items ≡ []) × (vec_len works ≤ vec_capacity lists.settled) }
     requires answered { (lists.answers.items ≡ []) × (vec_len works ≤ vec_capacity lists.answers) }
     requires fresh { All K.is_fresh works.items }
-    requires makes { (work : K) → K.is_fresh work → G.pre make work }
-    requires callable { (work : K) (call : F) → K.is_fresh work → G.post make work call
-        → F.pre call }
-    requires answers { (work : K) (call : F) (answer : Result ⊤ EngineError)
-        → G.post make work call → F.post call answer → K.may_answer work answer }
+    requires makes { MakesCalls K.is_fresh K.may_answer G.pre G.post F.pre F.post make }
     ensures { AllZip K.may_answer works.items result.items }
 {
     let WorkLists {

@@ -2,3 +2,4 @@ pub mod CallerLemmas
 mod BudgetLemmas
 mod PayloadLemmas
 mod FarLemmas
+mod ErrorLemmas

@@ -6,3 +6,4 @@ pub mod Reported
 pub mod Ledger
 pub mod Counts
 pub mod Account
+pub mod PayloadLaws

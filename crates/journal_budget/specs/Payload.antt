@@ -3,7 +3,8 @@ use Rattle.std.specs.Prelude.{◌≡◌, ◌≤◌, ◌⊎◌, ◌+◌, ◌-◌,
 use Rattle.journal_budget.specs.Budget.{capped}
 use Rattle.limits.specs.declared.journals.TheConstants.{MAX_BYTES}
 use Rattle.limits.specs.declared.journals.TheConstants.{MAX_REPLY_BYTES}
-use Rattle.journal_budget.specs.declared.payload.TheConstants.{MAX_READ_BYTES, MAX_ERROR_BYTES, FAR_BYTES, FAR_STEPS, FIRST_STEPS}
+use Rattle.limits.specs.declared.reads.TheConstants.{READ_SIZE}
+use Rattle.journal_budget.specs.declared.payload.TheConstants.{MAX_ERROR_BYTES, FAR_BYTES, FAR_STEPS, FIRST_STEPS}
 
 -- bytes of payload in the journal, bytes of replies that came, with those of the proxy itself, bytes handed out to clients, the
 -- steps that have payload, and the average of the generation before
@@ -47,7 +48,7 @@ HasRoomForCommand p owed unfinished =
 -- Hosts' replies of which n bytes have come have room: what is kept, n bytes and one more read, as many to hand them out, and
 -- the texts of errors fit.
 abbrev pub HasRoomForReply : PayloadState → ℕ → Type 0
-HasRoomForReply p unfinished = kept_bytes p + 2 * (unfinished + MAX_READ_BYTES) + MAX_ERROR_BYTES ≤ MAX_BYTES
+HasRoomForReply p unfinished = kept_bytes p + 2 * (unfinished + READ_SIZE) + MAX_ERROR_BYTES ≤ MAX_BYTES
 
 -- To a journal no more than FAR_BYTES bytes of payload came since, and of them no more are still to be handed out.
 pub record HasGrown (old new : PayloadState) : Type 0 where

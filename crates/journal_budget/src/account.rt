@@ -16,8 +16,9 @@ use std::mem;
 pub struct Account {
     counts: TurnCounts,
     loan: Loan,
-    // Since the last settlement: the steps, and their cost.
+    // The steps since the last settlement.
     steps: u64,
+    // Their cost.
     cost: u64,
     bytes: PayloadCounts,
     reported: Reported,

@@ -1,4 +1,5 @@
 ghost use Rattle.journal_budget.specs.BudgetLaws.{CommandFits, OwedFits, OwedIsPaid, PaysAtFirst, PaysOnceLent, PaysOnceNoted, PaysOnceSettled};
+ghost use Rattle.journal_budget.specs.PayloadLaws.{ErrorsFit};
 
 /// A command of at most 1,023 parts costs at most `MAX_COMMAND_STEPS` steps.
 ///
@@ -12,4 +13,9 @@ pub fn owed_steps_fit()
     ensures noted { PaysOnceNoted }
     ensures settled { PaysOnceSettled }
     ensures fits { OwedFits }
+{}
+
+/// Errors in the places of all parts that a journal has room for fit the bytes that are kept for errors.
+pub fn errors_fit()
+    ensures { ErrorsFit }
 {}

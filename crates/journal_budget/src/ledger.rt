@@ -32,7 +32,7 @@ impl Ledger {
     ghost use Rattle.journal_budget.specs.Ledger.{empty_ledger, with_steps, with_coming};
     ghost use Rattle.journal_budget.specs.Payload.{next_average_of, HasRoomForReply};
 
-    /// An empty ledger. `average` is the last generation's payload bytes a step.
+    /// An empty ledger. `average` is the last generation's payload bytes a step, 0 for the first one.
     pub fn new(average: u64) -> Ledger
         ensures { result ≡ empty_ledger average }
     {

@@ -15,8 +15,9 @@ mod step_kind;
 mod turn_counts;
 
 pub use account::Account;
-pub use laws::owed_steps_fit;
+pub use laws::{errors_fit, owed_steps_fit};
 pub use ledger::Ledger;
+pub use payload::MAX_PART_ERROR;
 pub use payload_counts::PayloadCounts;
 pub use step_kind::StepKind;
 pub use turn_counts::TurnCounts;

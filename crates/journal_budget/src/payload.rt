@@ -1,10 +1,10 @@
 ghost use Rattle.std.specs.Prelude.{◌≡◌, ◌↔◌, ◌≤◌, ◌+◌, ◌-◌, ◌*◌, IsTrue};
 
-use limits::{MAX_BYTES, MAX_REPLY_BYTES};
+use limits::{MAX_BYTES, MAX_REPLY_BYTES, READ_SIZE};
 use std::marker::Model;
 
-// The most bytes of one read from a host.
-const MAX_READ_BYTES: u64 = 16_384;
+/// The most bytes of an error in the place of a host's reply.
+pub const MAX_PART_ERROR: u64 = 19;
 
 // Kept for the texts of errors once replies have no room.
 const MAX_ERROR_BYTES: u64 = 4_194_304;
@@ -12,7 +12,7 @@ const MAX_ERROR_BYTES: u64 = 4_194_304;
 /// A journal far from full may get this many bytes before its room is looked at again.
 pub(crate) const FAR_BYTES: u64 = 1_048_576;
 
-/// And it may owe this many more steps.
+/// And it may owe this many more steps before that.
 pub(crate) const FAR_STEPS: u64 = 16_384;
 
 // An average is the journal's own from this many steps on.
@@ -53,7 +53,6 @@ impl Payload {
     ghost use Rattle.journal_budget.specs.Budget.{capped};
     ghost use Rattle.journal_budget.specs.Payload.{no_payload, average_of, kept_bytes, next_average_of, HasRoomForCommand, HasRoomForReply, IsFarFromFull};
 
-    /// `average` is the last generation's payload bytes a step at its end, 0 for the first one.
     pub(crate) fn new(average: u64) -> Payload
         ensures { result ≡ no_payload average }
     {
@@ -66,8 +65,7 @@ impl Payload {
         }
     }
 
-    /// `came` counts the proxy's own replies too, and `steps` those of the average. Each sum stays at the greatest
-    /// `u64`.
+    /// Each sum stays at the greatest `u64`.
     pub(crate) fn note(&mut self, used: u64, came: u64, handed: u64, steps: u64)
         ensures used { self.new.used ≡ capped (self.old.used + used) }
         ensures came { self.new.came ≡ capped (self.old.came + came) }
@@ -120,7 +118,8 @@ impl Payload {
     pub(crate) fn takes_reply(&self, unfinished: u64) -> bool
         ensures { IsTrue result ↔ HasRoomForReply self.now unfinished }
     {
-        let grown = unfinished.saturating_add(MAX_READ_BYTES).saturating_mul(2);
+        let read = unfinished.saturating_add(READ_SIZE as u64);
+        let grown = read.saturating_mul(2);
         self.kept()
             .saturating_add(grown)
             .saturating_add(MAX_ERROR_BYTES)

@@ -4,8 +4,8 @@ ghost use Rattle.limits.specs.declared.journals.TheConstants.{MAX_COMMAND_STEPS}
 ghost use Rattle.journal_budget.specs.Account.{known, owed_steps};
 ghost use Rattle.journal_budget.specs.Budget.{capped, no_loan, free_steps, borrowed};
 ghost use Rattle.journal_budget.specs.Counts.{no_bytes};
-ghost use Rattle.journal_budget.specs.Payload.{HasRoomForCommand, HasRoomForReply};
-ghost use Rattle.journal_room.specs.declared.journal_room.TheConstants.{LARGE};
+ghost use Rattle.journal_budget.specs.Payload.{HasRoomForCommand, HasRoomForReply, average_of};
+ghost use Rattle.journal_room.specs.declared.journal_room.TheConstants.{LARGE, LARGE_STEP};
 
 use crate::metered_turns::{HeldTurns, MeteredTurns};
 use crossbeam_utils::CachePadded;
@@ -135,6 +135,12 @@ impl JournalRoom {
             ↔ ((capped (reserve + MAX_COMMAND_STEPS) ≤ free_steps turns.new.account.loan)
             × HasRoomForCommand (known turns.new.account) (owed_steps turns.new.account)
             unfinished) }
+        ensures large { (LARGE ≤ max unfinished turns.old.account.bytes.kept)
+            ⊎ (LARGE_STEP ≤ average_of turns.old.account.reported.payload)
+            → turns.new.account.bytes ≡ no_bytes }
+        ensures small { max unfinished turns.old.account.bytes.kept < LARGE
+            → average_of turns.old.account.reported.payload < LARGE_STEP
+            → turns.new.account ≡ record turns.old.account { loan = turns.new.account.loan } }
     {
         if unfinished.max(turns.account.unreported_bytes()) >= LARGE
             || turns.account.average() >= LARGE_STEP

@@ -1,6 +1,6 @@
 ghost use Rattle.std.specs.Prelude.{◌≡◌, IfOk, IfErr};
 ghost use Rattle.ticket_gate.specs.Journal.{AddsTurn};
-ghost use Rattle.ticket_gate.specs.Turns.{RefusesTurn};
+ghost use Rattle.ticket_gate.specs.Turns.{KeepsPlace, RefusesTurn};
 ghost use Rattle.journal_budget.specs.Account.{no_account};
 ghost use Rattle.journal_budget.specs.Budget.{free_steps};
 ghost use Rattle.journal_budget.specs.Counts.{no_counts};
@@ -82,17 +82,6 @@ impl<T: CoreTurns> MeteredTurns<T> {
         self.turns.leave();
     }
 
-    /// The same, if something may take long.
-    pub fn leave_if(&mut self, takes_long: bool)
-    where
-        T: HeldTurns,
-        ensures { self.new ≡ self.old }
-    {
-        if takes_long {
-            self.turns.leave();
-        }
-    }
-
     /// As [`HeldTurns::hold`].
     pub fn hold(&mut self)
     where
@@ -146,13 +135,7 @@ impl<T: CoreTurns> Turns for MeteredTurns<T> {
 
     type Home = T::Home;
 
-    ghost home = { λ w. T.home w.turns };
-
-    ghost pass = { λ w. T.pass w.turns };
-
-    ghost seen = { λ w. T.seen w.turns };
-
-    ghost setting = { λ w. T.setting w.turns };
+    ghost facts = { λ w. T.facts w.turns };
 
     ghost legal = { T.legal };
 
@@ -162,14 +145,13 @@ impl<T: CoreTurns> Turns for MeteredTurns<T> {
 
     #[inline(always)]
     fn turn<R: Wait>(&mut self, rt: &R, event: Event) -> Result<Answer, TurnRefusal<Refusal, Event>>
-        ensures same { (T.home self.new.turns ≡ T.home self.old.turns)
-            × (T.pass self.new.turns ≡ T.pass self.old.turns)
-            × (T.setting self.new.turns ≡ T.setting self.old.turns) }
-        ensures answered { IfOk result (λ answer. AddsTurn (T.legal (T.setting self.old.turns))
-            (T.pass self.old.turns) (T.seen self.old.turns) event answer (T.seen self.new.turns)) }
-        ensures refused { IfErr result (RefusesTurn (T.cause (T.setting self.old.turns))
-            (T.spent self.new.turns) (T.pass self.old.turns) (T.seen self.old.turns) event
-            (T.seen self.new.turns)) }
+        ensures same { KeepsPlace (T.facts self.old.turns) (T.facts self.new.turns) }
+        ensures answered { let old = T.facts self.old.turns in IfOk result (λ answer.
+            AddsTurn (T.legal old.setting) old.pass old.seen
+            event answer (T.facts self.new.turns).seen) }
+        ensures refused { let old = T.facts self.old.turns in IfErr result (RefusesTurn
+            (T.cause old.setting) (T.spent self.new.turns) old.pass old.seen
+            event (T.facts self.new.turns).seen) }
         ensures noted { IfOk result (λ answer. self.new.account
             ≡ noted (brought_by event) answer self.old.account) }
         ensures unnoted { IfErr result (λ refusal. self.new.account ≡ self.old.account) }

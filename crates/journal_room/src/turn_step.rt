@@ -4,12 +4,13 @@ ghost use Rattle.journal_room.specs.TurnStep.{brought_by, own_bytes, noted};
 use journal_budget::{Account, PayloadCounts, StepKind};
 use proxy_core::{Answer, Event, Local};
 
-// The most bytes of the proxy's own answers: of PONG and OK, and of an error for a whole command.
+// The most bytes of PONG and OK.
 const MAX_OWN_WORD: u64 = 8;
 
+// The most bytes of an error for a whole command.
 const MAX_OWN_ERROR: u64 = 96;
 
-// The most bytes of the proxy's own answer to a command; 0 for any other answer.
+// 0 if the answer isn't the proxy's own.
 fn own_bytes(local: &Option<Local>, command: u64) -> u64
     ensures { result ≡ own_bytes local.now command }
 {

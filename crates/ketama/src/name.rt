@@ -26,8 +26,8 @@ impl Model for HostName {
 impl HostName {
     /// The name with these bytes.
     ///
-    /// It must have 1 to 255 bytes from 0x21 to 0x7E; otherwise it is refused with `BadName` (305).
-    /// Without memory for a copy of the bytes it is refused with `NoMemory` (301).
+    /// Refused `BadName` (305) unless these are 1 to 255 bytes from 0x21 to 0x7E. Refused `NoMemory` (301) without
+    /// memory for a copy.
     pub fn read(alloc: Global, bytes: &[u8]) -> Result<HostName, RingError>
         ensures ok { IfOk result (λ name. name ≡ bytes.now) }
         ensures named { OnOk result (IsHostName bytes.now) }
@@ -41,7 +41,7 @@ impl HostName {
         Ok(HostName { bytes })
     }
 
-    /// Its bytes.
+    /// The name's bytes.
     pub fn as_bytes(&self) -> &[u8]
         ensures value { result.now ≡ self.now }
         ensures name { IsHostName self.now }

@@ -121,9 +121,9 @@ impl Ring {
         self.digests
     }
 
-    /// The usable host that owns the point: the host of the least point at or above it, or past the
-    /// last point of the least of all. Of equal points the lower host's counts. `usable` says
-    /// whether each host is usable. `None` exactly if no usable host has a point. Takes no memory.
+    /// The usable host that owns the point: the host of the least point at or above it, or past the last point of the
+    /// least of all. Of equal points the lower host's counts. `usable` says which hosts are usable. `None` exactly if
+    /// no usable host has a point. Takes no memory.
     pub fn owner(&self, point: u32, usable: &[bool]) -> Option<usize>
         requires { length usable.now ≡ self.now.hosts }
         ensures owner { IsOwner self.now.pairs point usable.now result }

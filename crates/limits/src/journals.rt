@@ -1,7 +1,7 @@
 /// The most steps of a journal.
 pub const MAX_STEPS: usize = 262_144;
 
-/// The most bytes of their payload.
+/// The most payload bytes of a journal.
 pub const MAX_BYTES: u64 = 67_108_864;
 
 /// The most steps of one command.

@@ -1,5 +1,5 @@
-//! The limits of the proxy. The crates that keep them prove them in their contracts. It stands on no other crate.
-//! Begin with `laws.rt`.
+//! The limits of the proxy, with times in milliseconds. The crates that keep them prove them in their contracts. It
+//! stands on no other crate. Begin with `laws.rt`.
 #![tactic(auto)]
 
 mod hosts;
@@ -7,6 +7,7 @@ mod journals;
 mod laws;
 mod messages;
 mod queues;
+mod reads;
 mod visitors;
 mod workers;
 
@@ -20,6 +21,7 @@ pub use messages::{
     MAX_BULK, MAX_CLIENT_MEMBERS, MAX_DEPTH, MAX_HOST_MEMBERS, MAX_LINE, MAX_SHOWN, MAX_TEXT,
 };
 pub use queues::{MAX_COMMANDS, MAX_CONNECTIONS, MAX_SOCKETS, MAX_WAITING};
+pub use reads::READ_SIZE;
 pub use visitors::{MAX_BODY, MAX_HEAD, MAX_VISITORS, VISIT_MS};
 pub use workers::{
     CONNECTING_MS, LINGER_MS, MAX_BUFFERED, MAX_LAST, MAX_PARTS_AT_ONCE, MAX_REFUSALS, MAX_SPARED,

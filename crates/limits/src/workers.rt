@@ -1,13 +1,13 @@
 /// At this many bytes of unfinished commands together, connections that add to theirs are ended.
 pub const MAX_UNFINISHED: u64 = 67_108_864;
 
-/// Unfinished commands of fewer bytes are spared that.
+/// An unfinished command of at most this many bytes doesn't end its connection.
 pub const MAX_SPARED: u64 = 16_384;
 
 /// This many parts that a host's worker hasn't seen hold clients back.
 pub const MAX_UNSEEN: u64 = 256;
 
-/// The most parts queued between two checks of that.
+/// The most parts queued between two checks of `MAX_UNSEEN`.
 pub const MAX_PARTS_AT_ONCE: u64 = 512;
 
 /// This many buffered bytes are written before more are buffered.

@@ -1,1 +1,3 @@
 pub mod CallerLemmas
+pub mod CallLemmas
+pub mod PlaceLemmas

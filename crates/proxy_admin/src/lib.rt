@@ -1,11 +1,13 @@
 //! The operator's address of a running server: HTTP pages about it, and orders to end it.
 //!
 //! An [`AdminListener`] has a thread of its own, and shows an [`Operated`] server. `proxy_pages` decides each answer.
-//! It is proved safe and no more. It stands on `proxy_pages` and the HTTP crates. Begin with `visits.rt`.
+//! Contracts say which orders are left, when a visit is over and who has to go; the rest is proved safe. It stands on
+//! `proxy_pages` and the HTTP crates. Begin with `visits.rt`.
 #![tactic(auto)]
 
 mod admin;
 mod operated;
+mod places;
 mod visitor;
 mod visits;
 

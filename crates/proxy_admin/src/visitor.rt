@@ -1,3 +1,9 @@
+ghost use Rattle.std.specs.Prelude.{◌≡◌, ◌↔◌, ◌-◌, IsTrue};
+ghost use Rattle.http_server.specs.Connection.{history};
+ghost use Rattle.proxy_admin.specs.Visits.{AreAnswered, IsOver, moved_at, owed};
+ghost use Rattle.proxy_pages.specs.declared.admin.Admin.{Admin as AnswersOf};
+
+use crate::operated::Operated;
 use http_server::{Config as Limits, Connection};
 use limits::{MAX_BODY, MAX_HEAD, VISIT_MS};
 use mio::net::TcpStream;
@@ -6,6 +12,7 @@ use std::alloc::Global;
 use std::hash::RandomState;
 use std::io;
 use std::io::ErrorKind;
+use std::sync::Wait;
 
 // The most reads and writes of one visitor in a round.
 const MAX_MOVES: u32 = 16;
@@ -33,11 +40,31 @@ enum Moved {
     Gone,
 }
 
+/// An order that a visitor gave. It has no `Drop`: it has to be carried out.
+pub(crate) struct OwedOrder {
+    order: Order,
+}
+
+impl OwedOrder {
+    pub(crate) fn carry_out<R: Wait + Eprint, S: Operated>(self, rt: &R, server: &S) {
+        let OwedOrder { order } = self;
+        server.obey(rt, order);
+    }
+}
+
+fn owed(order: Option<Order>) -> Option<OwedOrder>
+    ensures { result ≡ owed order }
+{
+    match order {
+        Some(order) => Some(OwedOrder { order }),
+        None => None,
+    }
+}
+
 /// What came of a visitor's round.
-#[derive(Clone, Copy, Drop)]
 pub(crate) struct Round {
     pub(crate) is_over: bool,
-    pub(crate) order: Option<Order>,
+    pub(crate) order: Option<OwedOrder>,
 }
 
 pub(crate) struct Visitor {
@@ -66,23 +93,35 @@ impl Visitor {
         }
     }
 
-    pub(crate) fn moved(&self) -> u64 {
+    pub(crate) fn moved(&self) -> u64
+        ensures { result ≡ self.now.moved }
+    {
         self.moved
     }
 
-    fn answer_requests(&mut self, answers: &mut Answers<'_>) -> Moved {
+    // Writes once what is pending, or reads once.
+    fn move_bytes(&mut self) -> io::Result<usize>
+        ensures calls { (history self.new.connection).calls ≡ (history self.old.connection).calls }
+        ensures moved { self.new.moved ≡ self.old.moved }
+    {
+        if self.connection.wants_write() {
+            self.connection.write_to(&mut self.stream)
+        } else {
+            self.connection.read_from(&mut self.stream)
+        }
+    }
+
+    fn answer_requests(&mut self, answers: &mut Answers<'_>) -> Moved
+        ensures answered { AreAnswered answers.old answers.new self.old self.new }
+        ensures moved { self.new.moved ≡ self.old.moved }
+    {
         let mut moved = Moved::Nothing;
         for _ in 0..MAX_MOVES {
             self.connection.advance(answers);
             if self.connection.is_done() {
                 return Moved::Gone;
             }
-            let result = if self.connection.wants_write() {
-                self.connection.write_to(&mut self.stream)
-            } else {
-                self.connection.read_from(&mut self.stream)
-            };
-            match result {
+            match self.move_bytes() {
                 Ok(_) => moved = Moved::Something,
                 Err(error) if is_pause(&error) => return moved,
                 Err(_) => return Moved::Gone,
@@ -92,9 +131,12 @@ impl Visitor {
     }
 
     /// Answers requests until the socket has to wait. An idle visit is over after `VISIT_MS` milliseconds.
-    pub(crate) fn answer(&mut self, mut answers: Answers<'_>, moment: u64) -> Round {
+    pub(crate) fn answer(&mut self, mut answers: Answers<'_>, moment: u64) -> Round
+        ensures answered { (last : AnswersOf) × AreAnswered answers.entry last self.old self.new
+            × (result.order ≡ owed last.order) }
+    {
         let moved = self.answer_requests(&mut answers);
-        let order = answers.order();
+        let order = owed(answers.order());
         drop(answers);
         Round {
             is_over: self.is_over(moved, moment),
@@ -103,7 +145,10 @@ impl Visitor {
     }
 
     // Whether the visit is over after a round with this result.
-    fn is_over(&mut self, moved: Moved, moment: u64) -> bool {
+    fn is_over(&mut self, moved: Moved, moment: u64) -> bool
+        ensures over { IsTrue result ↔ IsOver moved (moment - self.old.moved) }
+        ensures moved { self.new ≡ record self.old { moved = moved_at moved self.old.moved moment } }
+    {
         match moved {
             Moved::Something => {
                 self.moved = moment;

@@ -2,12 +2,13 @@
 
 use crate::admin::Admin;
 use crate::operated::Operated;
-use crate::visitor::Visitor;
+use crate::places::make_place;
+use crate::visitor::{OwedOrder, Round, Visitor};
 use limits::MAX_VISITORS;
 use mio::net::TcpStream;
 use mio::{Events, Interest, Poll, Token};
 use proxy_config::Host;
-use proxy_pages::{About, Admin as Answers, Order, Snapshot};
+use proxy_pages::{About, Admin as Answers, Snapshot};
 use slab::Slab;
 use std::alloc::{AllocError, Global};
 use std::rt::Clock;
@@ -82,29 +83,8 @@ impl Visits {
             let Ok((stream, _)) = self.admin.listener.accept() else {
                 return;
             };
-            if self.visitors.len() >= MAX_VISITORS {
-                self.let_oldest_go();
-            }
+            make_place(&mut self.visitors);
             let _ = self.open(stream, moment);
-        }
-    }
-
-    fn oldest(&self) -> Option<usize> {
-        let (mut oldest, mut least) = (None, u64::MAX);
-        for key in 0..self.visitors.capacity() {
-            if let Some(visitor) = self.visitors.get(key) {
-                if visitor.moved() <= least {
-                    oldest = Some(key);
-                    least = visitor.moved();
-                }
-            }
-        }
-        oldest
-    }
-
-    fn let_oldest_go(&mut self) {
-        if let Some(key) = self.oldest() {
-            drop(self.visitors.try_remove(key));
         }
     }
 
@@ -145,8 +125,9 @@ impl Visits {
             hosts,
         };
         for key in 0..self.visitors.capacity() {
-            if let Some(order) = self.serve_visitor(key, &about, &snapshot, moment) {
-                server.obey(rt, order);
+            match self.serve_visitor(key, &about, &snapshot, moment) {
+                Some(order) => order.carry_out(rt, server),
+                None => {}
             }
         }
     }
@@ -157,12 +138,15 @@ impl Visits {
         about: &About<'_>,
         snapshot: &Snapshot,
         moment: u64,
-    ) -> Option<Order> {
+    ) -> Option<OwedOrder> {
         let visitor = self.visitors.get_mut(key)?;
-        let round = visitor.answer(Answers::new(self.alloc, about, snapshot), moment);
-        if round.is_over {
+        let Round { is_over, order } = visitor.answer(
+            Answers::new(self.alloc, about, snapshot),
+            moment,
+        );
+        if is_over {
             drop(self.visitors.try_remove(key));
         }
-        round.order
+        order
     }
 }

@@ -1,7 +1,7 @@
 //! The settings file: a JSON object with a key for each setting.
 //!
 //! [`Config::read`] returns the settings in a file's bytes, or its first error. It stands on `serde_json` and `ketama`.
-//! Begin with `config.rt`.
+//! Begin with `config.rt`; `table.rt` reads each key.
 //!
 //! ```text
 //! let config = Config::read(alloc, br#"{"hosts":["127.0.0.1:7001","127.0.0.1:7002"]}"#)?;
@@ -19,4 +19,5 @@ mod error;
 mod hosts;
 mod keys;
 mod line;
+mod table;
 mod weights;

@@ -13,11 +13,14 @@ use Rattle.proxy_engines.specs.HostStep.{ends_of}
 use Rattle.proxy_engines.proofs.CallerLemmas as engines
 use Rattle.proxy_engines.specs.Client.{Client as Engine}
 use Rattle.proxy_connections.specs.Sockets.{CarriesItsSocket, KeepsHost, OpensSocket}
+use Rattle.proxy_config.specs.declared.config.Host.{Host}
 use Rattle.proxy_notices.specs.Places.{IsOf}
 use Rattle.proxy_notices.specs.declared.place.Place.{Place}
 use Rattle.proxy_connections.specs.Places.{KeepsToPlace}
-use Rattle.proxy_connections.proofs.PlaceLemmas.{hosts_of-skip, hosts_of-take, keeps_beside, keeps_of_connection, keeps_of_host}
-use Rattle.proxy_connections.specs.WorkerConnections.{AddsClient, CarriesLink, ChangesClient, ChangesHost, WorkerConnectionsState, IsAt, IsNewcomer, IsServing, KeepsClients, RiseTo, ServesClients, ServesHosts, number_of}
+use Rattle.proxy_connections.specs.Stages.{PassesOn}
+use Rattle.proxy_connections.proofs.StageLemmas.{KeepsSocket-passes_on}
+use Rattle.proxy_connections.proofs.PlaceLemmas.{hosts_of-skip, hosts_of-take, keeps_of_connection, keeps_of_host}
+use Rattle.proxy_connections.specs.WorkerConnections.{AddsClient, CarriesLink, IsAddressed, ChangesClient, ChangesHost, WorkerConnectionsState, IsAt, IsNewcomer, IsServing, KeepsClients, RiseTo, ServesClients, ServesHosts, number_of}
 use Rattle.proxy_connections.specs.declared.client_connection.ClientConnection.{ClientConnection}
 use Rattle.proxy_connections.specs.declared.host_connection.HostConnection.{HostConnection}
 
@@ -46,13 +49,14 @@ clients_stay clients H later none s = record {
 }
 
 -- hosts stay served over steps that are none of theirs
-pub hosts_stay : {place : Place} → (hosts : List HostConnection) (H later : History) → ((h : ℕ) → host_steps h later ≡ [])
-    → ServesHosts place hosts H → ServesHosts place hosts (later ++ H)
+pub hosts_stay : {place : Place} → {settings : List Host} → (hosts : List HostConnection) (H later : History) → ((h : ℕ) → host_steps h later ≡ [])
+    → ServesHosts place settings hosts H → ServesHosts place settings hosts (later ++ H)
 hosts_stay hosts H later none s = record {
   carries = λ i d within.
       let host : HostConnection = get_or hosts i d in
       engines.hosts_carry_logs.stays host.engine.outbox host.engine.link H later no_logs (none (number_of host)) (s.carries i d within);
   own = s.own;
+  addressed = s.addressed;
   apart = s.apart;
 }
 
@@ -125,10 +129,11 @@ get_or_default [] place d e within = absurd (omega (arith, within))
 get_or_default (host ∷ hosts) zero d e within = refl
 get_or_default (host ∷ hosts) (suc place) d e within = get_or_default hosts place d e (omega (arith, within))
 
-module _ {at_place : Place} (hosts : List HostConnection) (place : ℕ) (one two : HostConnection) (H H' : History) (within : place < length hosts)
-    (is_one : one ≡ get_or hosts place one) (keeps : KeepsHost (ends_of one.engine) (ends_of two.engine) H H') (s : ServesHosts at_place hosts H) where
+module _ {at_place : Place} {settings : List Host} (hosts : List HostConnection) (place : ℕ) (one two : HostConnection) (H H' : History) (within : place < length hosts)
+    (is_one : one ≡ get_or hosts place one) (keeps : KeepsHost (ends_of one.engine) (ends_of two.engine) H H') (address : two.link ≡ one.link)
+    (s : ServesHosts at_place settings hosts H) where
   -- a host that keeps its link is served, and so are the others
-  pub hosts_step : ServesHosts at_place (set hosts place two) H'
+  pub hosts_step : ServesHosts at_place settings (set hosts place two) H'
   hosts_step = record {
     carries = λ i d i_within. elim (cases_eq i place) [
       | inl same ↦
@@ -146,6 +151,13 @@ module _ {at_place : Place} (hosts : List HostConnection) (place : ℕ) (one two
     own = λ i d i_within.
         let i_was : i < length hosts = rw (length-set hosts place two) at i_within in
         rw (number_stays i d i_was) (s.own i d i_was);
+    addressed = λ i d i_within. elim (cases_eq i place) [
+      | inl same ↦
+          let (entry, there, is) = rw (← is_one) at (s.addressed place one within) in
+          rw (same, get_or-set_same hosts place two d within) (entry, rw keeps.host there, address ∙ is)
+      | inr differs ↦
+          rw (get_or-set_other hosts place i two d differs) (s.addressed i d (rw (length-set hosts place two) at i_within))
+    ];
     apart = λ i j x y i_within j_within same.
         s.apart i j x y (rw (length-set hosts place two) at i_within) (rw (length-set hosts place two) at j_within)
         (sym (number_stays i x (rw (length-set hosts place two) at i_within)) ∙ same ∙ number_stays j y (rw (length-set hosts place two) at j_within));
@@ -162,10 +174,10 @@ module _ {at_place : Place} (hosts : List HostConnection) (place : ℕ) (one two
 
 -- A WORKER
 
-module _ {place : Place} (old new : Slab ClientConnection) (hosts : List HostConnection) (key : ℕ) (one two : ClientConnection) (H H' : History) where
+module _ {place : Place} {settings : List Host} (old new : Slab ClientConnection) (hosts : List HostConnection) (key : ℕ) (one two : ClientConnection) (H H' : History) where
   -- one client made steps
   pub serves_client : Updates old new key (Some two) → IsAt old key one → KeepsSocket one.engine two.engine H H'
-      → IsServing place old hosts H → IsServing place new hosts H'
+      → IsServing place settings old hosts H → IsServing place settings new hosts H'
   serves_client updates stands keeps s = record {
     clients_are = clients_step old new key one two H H' updates stands keeps s.clients_are;
     hosts_are = rw keeps.adds (hosts_stay hosts H keeps.steps (engines.clients_leave_others one.engine.conn keeps.steps keeps.alone).1 s.hosts_are);
@@ -173,20 +185,20 @@ module _ {place : Place} (old new : Slab ClientConnection) (hosts : List HostCon
   }
 
 -- one host made steps
-pub serves_host : {at_place : Place} → (clients : Slab ClientConnection) (hosts : List HostConnection) (place : ℕ) (one two : HostConnection) (H H' : History) → place < length hosts
-    → one ≡ get_or hosts place one → KeepsHost (ends_of one.engine) (ends_of two.engine) H H'
-    → IsServing at_place clients hosts H → IsServing at_place clients (set hosts place two) H'
-serves_host {at_place} clients hosts place one two H H' within is_one keeps s = record {
+pub serves_host : {at_place : Place} → {settings : List Host} → (clients : Slab ClientConnection) (hosts : List HostConnection) (place : ℕ) (one two : HostConnection) (H H' : History) → place < length hosts
+    → one ≡ get_or hosts place one → KeepsHost (ends_of one.engine) (ends_of two.engine) H H' → two.link ≡ one.link
+    → IsServing at_place settings clients hosts H → IsServing at_place settings clients (set hosts place two) H'
+serves_host {at_place} {settings} clients hosts place one two H H' within is_one keeps address s = record {
   clients_are = rw keeps.adds
       (clients_stay clients H keeps.steps (λ key client there. (engines.hosts_leave_others (number_of one) keeps.steps keeps.alone).1 client.engine.conn) s.clients_are);
-  hosts_are = hosts_step hosts place one two H H' within is_one keeps s.hosts_are;
+  hosts_are = hosts_step hosts place one two H H' within is_one keeps address s.hosts_are;
   keeps = rw keeps.adds
       (keeps_of_host at_place (number_of one) H keeps.steps keeps.alone (rw (ap number_of is_one) (s.hosts_are.own place one within)) s.keeps);
 }
 
 -- a client was removed
-pub serves_removed : {place : Place} → (old new : Slab ClientConnection) (hosts : List HostConnection) (key : ℕ) (H : History) → Updates old new key None
-    → IsServing place old hosts H → IsServing place new hosts H
+pub serves_removed : {place : Place} → {settings : List Host} → (old new : Slab ClientConnection) (hosts : List HostConnection) (key : ℕ) (H : History) → Updates old new key None
+    → IsServing place settings old hosts H → IsServing place settings new hosts H
 serves_removed old new hosts key H updates s = record {
   clients_are = clients_removed old new key H updates s.clients_are;
   hosts_are = s.hosts_are;
@@ -200,11 +212,11 @@ first_none [] ys none = refl
 first_none (x ∷ xs) ys none = absurd cc
 
 -- an engine was opened: the others are served, and it is a newcomer
-module _ {place : Place} (clients : Slab ClientConnection) (hosts : List HostConnection) (engine : Engine) (H H' : History) (o : OpensSocket engine H H') (s : IsServing place clients hosts H) where
+module _ {place : Place} {settings : List Host} (clients : Slab ClientConnection) (hosts : List HostConnection) (engine : Engine) (H H' : History) (o : OpensSocket engine H H') (s : IsServing place settings clients hosts H) where
   others_differ : (key : ℕ) (client : ClientConnection) → IsAt clients key client → client.engine.conn ≢ engine.conn
   others_differ key client there same = s.clients_are.opened key client there (rw (← same) at o.fresh)
 
-  pub serves_beside : IsServing place clients hosts H'
+  pub serves_beside : IsServing place settings clients hosts H'
   serves_beside = record {
     clients_are = rw o.adds
         (clients_stay clients H o.later
@@ -223,15 +235,15 @@ module _ {place : Place} (clients : Slab ClientConnection) (hosts : List HostCon
   }
 
 -- a newcomer became a client
-module _ {place : Place} (old new : Slab ClientConnection) (hosts : List HostConnection) (key : ℕ) (client : ClientConnection) (H : History)
-    (updates : Updates old new key (Some client)) (vacant : get old key ≡ None) (n : IsNewcomer client.engine old H) (s : IsServing place old hosts H) where
+module _ {place : Place} {settings : List Host} (old new : Slab ClientConnection) (hosts : List HostConnection) (key : ℕ) (client : ClientConnection) (H : History)
+    (updates : Updates old new key (Some client)) (vacant : get old key ≡ None) (n : IsNewcomer client.engine old H) (s : IsServing place settings old hosts H) where
   is_client : (other : ℕ) (one : ClientConnection) → other ≡ key → IsAt new other one → one ≡ client
   is_client other one same there = let changed = updates.changed in cc
 
   was : (other : ℕ) (one : ClientConnection) → other ≢ key → IsAt new other one → IsAt old other one
   was other one differs there = sym (updates.others other differs) ∙ there
 
-  pub serves_inserted : IsServing place new hosts H
+  pub serves_inserted : IsServing place settings new hosts H
   serves_inserted = record {
     clients_are = record {
       carries = λ other one there. elim (cases_eq other key) [
@@ -258,37 +270,43 @@ module _ {place : Place} (old new : Slab ClientConnection) (hosts : List HostCon
   }
 
 -- a client of a worker that serves is served
-pub carries_its_socket : {place : Place} → (clients : Slab ClientConnection) (hosts : List HostConnection) (key : ℕ) (client : ClientConnection) (H : History) → IsAt clients key client
-    → IsServing place clients hosts H → CarriesItsSocket client.engine
+pub carries_its_socket : {place : Place} → {settings : List Host} → (clients : Slab ClientConnection) (hosts : List HostConnection) (key : ℕ) (client : ClientConnection) (H : History) → IsAt clients key client
+    → IsServing place settings clients hosts H → CarriesItsSocket client.engine
 carries_its_socket clients hosts key client H there s =
     let (pasts, k) = s.clients_are.carries key client there in
     record { pasts = pasts; steps = H; carries = k }
 
 -- THE SLAB'S KEYS
 
-module _ {place : Place} (clients : Slab ClientConnection) (hosts : List HostConnection) (key : ℕ) (one two : ClientConnection) (H H' : History) (stands : IsAt clients key one) (s : IsServing place clients hosts H) where
+module _ {place : Place} {settings : List Host} (clients : Slab ClientConnection) (hosts : List HostConnection) (key : ℕ) (one two : ClientConnection) (H H' : History) (stands : IsAt clients key one) (s : IsServing place settings clients hosts H) where
   updates_at : Updates clients (with_value clients key two) key (Some two)
   updates_at = Updates-with_value clients key two (rw stands refl)
 
   -- the client at a key made steps
-  pub serves_stepped : KeepsSocket one.engine two.engine H H' → IsServing place (with_value clients key two) hosts H'
+  pub serves_stepped : KeepsSocket one.engine two.engine H H' → IsServing place settings (with_value clients key two) hosts H'
   serves_stepped keeps = serves_client clients (with_value clients key two) hosts key one two H H' updates_at stands keeps s
 
 -- the engine of the client at a key is as it was
-pub serves_same : {place : Place} → (clients : Slab ClientConnection) (hosts : List HostConnection) (key : ℕ) (one two : ClientConnection) (H : History) → IsAt clients key one
-    → two.engine ≡ one.engine → IsServing place clients hosts H → IsServing place (with_value clients key two) hosts H
+pub serves_same : {place : Place} → {settings : List Host} → (clients : Slab ClientConnection) (hosts : List HostConnection) (key : ℕ) (one two : ClientConnection) (H : History) → IsAt clients key one
+    → two.engine ≡ one.engine → IsServing place settings clients hosts H → IsServing place settings (with_value clients key two) hosts H
 serves_same clients hosts key one two H stands same s =
     serves_stepped clients hosts key one two H H stands s (rw same (engines.KeepsSocket-same one.engine H))
 
+-- the writer of the client at a key has passed on what it took
+pub serves_passed : {place : Place} → {settings : List Host} → (clients : Slab ClientConnection) (hosts : List HostConnection) (key : ℕ) (one two : ClientConnection) (H : History) → IsAt clients key one
+    → PassesOn one.engine two.engine → IsServing place settings clients hosts H → IsServing place settings (with_value clients key two) hosts H
+serves_passed clients hosts key one two H stands passes s =
+    serves_stepped clients hosts key one two H H stands s (KeepsSocket-passes_on one.engine two.engine H passes)
+
 -- the client at a key may drain
-pub serves_drained : {place : Place} → (clients : Slab ClientConnection) (hosts : List HostConnection) (key : ℕ) (one two : ClientConnection) (H : History) → IsAt clients key one
-    → two.engine ≡ record one.engine { is_drained = true } → IsServing place clients hosts H → IsServing place (with_value clients key two) hosts H
+pub serves_drained : {place : Place} → {settings : List Host} → (clients : Slab ClientConnection) (hosts : List HostConnection) (key : ℕ) (one two : ClientConnection) (H : History) → IsAt clients key one
+    → two.engine ≡ record one.engine { is_drained = true } → IsServing place settings clients hosts H → IsServing place settings (with_value clients key two) hosts H
 serves_drained clients hosts key one two H stands drained s =
     serves_stepped clients hosts key one two H H stands s (rw drained (engines.KeepsSocket-drained one.engine H))
 
 -- a slab has more room
-pub serves_capacity : {place : Place} → (old new : Slab ClientConnection) (hosts : List HostConnection) (H : History) (capacity : ℕ) → new ≡ record old { capacity = capacity }
-    → IsServing place old hosts H → IsServing place new hosts H
+pub serves_capacity : {place : Place} → {settings : List Host} → (old new : Slab ClientConnection) (hosts : List HostConnection) (H : History) (capacity : ℕ) → new ≡ record old { capacity = capacity }
+    → IsServing place settings old hosts H → IsServing place settings new hosts H
 serves_capacity old new hosts H capacity is s = rw is (record {
   clients_are = record { carries = s.clients_are.carries; opened = s.clients_are.opened; apart = s.clients_are.apart };
   hosts_are = s.hosts_are;
@@ -298,8 +316,8 @@ serves_capacity old new hosts H capacity is s = rw is (record {
 -- BEGINNINGS
 
 -- a worker with these hosts, no clients and no steps serves
-pub serves_none : {place : Place} → (clients : Slab ClientConnection) (hosts : List HostConnection) (H : History) → clients.slots ≡ [] → H ≡ []
-    → ServesHosts place hosts [] → IsServing place clients hosts H
+pub serves_none : {place : Place} → {settings : List Host} → (clients : Slab ClientConnection) (hosts : List HostConnection) (H : History) → clients.slots ≡ [] → H ≡ []
+    → ServesHosts place settings hosts [] → IsServing place settings clients hosts H
 serves_none clients hosts H no_slots no_steps s =
     let nobody : (key : ℕ) (client : ClientConnection) → IsAt clients key client → ⊥ = λ key client there. none_at key client (rw no_slots at there) in
     rw no_steps (record {
@@ -317,28 +335,29 @@ serves_none clients hosts H no_slots no_steps s =
     none_at (suc key) client there = absurd cc
 
 -- hosts that rise to a number rise to the next one too, where that is another worker's
-pub rises_past : {place : Place} → (hosts : List HostConnection) (next : ℕ) → (IsOf place next → ⊥) → RiseTo place hosts next
-    → RiseTo place hosts (next + 1)
-rises_past {place} hosts next other r = record {
+pub rises_past : {place : Place} → {settings : List Host} → (hosts : List HostConnection) (next : ℕ) → (IsOf place next → ⊥) → RiseTo place settings hosts next
+    → RiseTo place settings hosts (next + 1)
+rises_past {place} {settings} hosts next other r = record {
   serves = r.serves;
   all = r.all ∙ hosts_of-skip place next other;
   below = λ k d within. let under = r.below k d within in omega (arith, under);
 }
 
 -- no host rises to 0
-pub rises_none : {place : Place} → RiseTo place [] 0
+pub rises_none : {place : Place} → {settings : List Host} → RiseTo place settings [] 0
 rises_none = record {
   serves = record {
     carries = λ k d within. absurd (omega (arith, within));
     own = λ k d within. absurd (omega (arith, within));
+    addressed = λ k d within. absurd (omega (arith, within));
     apart = λ i j x y i_within j_within same. absurd (omega (arith, i_within));
   };
   all = refl;
   below = λ k d within. absurd (omega (arith, within));
 }
 
-module _ {place : Place} (hosts : List HostConnection) (host : HostConnection) (next : ℕ) (r : RiseTo place hosts next) (number : number_of host ≡ next) (is_own : IsOf place next)
-    (carries : CarriesLink [] host) where
+module _ {place : Place} {settings : List Host} (hosts : List HostConnection) (host : HostConnection) (next : ℕ) (r : RiseTo place settings hosts next) (number : number_of host ≡ next) (is_own : IsOf place next)
+    (carries : CarriesLink [] host) (addressed : IsAddressed settings host) where
   before_last : (k : ℕ) → k < length (hosts ++ host ∷ []) → k ≢ length hosts → k < length hosts
   before_last k within differs = let all : k < length hosts + 1 = rw (length-append hosts (host ∷ [])) at within in omega (arith, all, differs)
 
@@ -349,7 +368,7 @@ module _ {place : Place} (hosts : List HostConnection) (host : HostConnection) (
   is_before k d within = get_or_append_left hosts (host ∷ []) d k within
 
   -- the next host stands behind the others
-  pub rises_by : RiseTo place (hosts ++ host ∷ []) (next + 1)
+  pub rises_by : RiseTo place settings (hosts ++ host ∷ []) (next + 1)
   rises_by = record {
     serves = record {
       carries = λ k d within. elim (cases_eq k (length hosts)) [
@@ -359,6 +378,10 @@ module _ {place : Place} (hosts : List HostConnection) (host : HostConnection) (
       own = λ k d within. elim (cases_eq k (length hosts)) [
         | inl same ↦ rw (is_last k d same, number) is_own
         | inr differs ↦ rw (is_before k d (before_last k within differs)) (r.serves.own k d (before_last k within differs))
+      ];
+      addressed = λ k d within. elim (cases_eq k (length hosts)) [
+        | inl same ↦ rw (is_last k d same) addressed
+        | inr differs ↦ rw (is_before k d (before_last k within differs)) (r.serves.addressed k d (before_last k within differs))
       ];
       apart = λ i j x y i_within j_within same. elim (cases_eq i (length hosts)) [
         | inl i_last ↦ elim (cases_eq j (length hosts)) [
@@ -392,18 +415,18 @@ module _ {place : Place} (hosts : List HostConnection) (host : HostConnection) (
   }
 
 -- the same of equal lists
-pub rises_empty : {place : Place} → (hosts : List HostConnection) → hosts ≡ [] → RiseTo place hosts 0
+pub rises_empty : {place : Place} → {settings : List Host} → (hosts : List HostConnection) → hosts ≡ [] → RiseTo place settings hosts 0
 rises_empty hosts none = rw none rises_none
 
-pub rises_to : {place : Place} → (hosts new : List HostConnection) (host : HostConnection) (next : ℕ) → new ≡ hosts ++ host ∷ [] → RiseTo place hosts next
-    → number_of host ≡ next → IsOf place next → CarriesLink [] host → RiseTo place new (next + 1)
-rises_to hosts new host next is r number is_own carries = rw is (rises_by hosts host next r number is_own carries)
+pub rises_to : {place : Place} → {settings : List Host} → (hosts new : List HostConnection) (host : HostConnection) (next : ℕ) → new ≡ hosts ++ host ∷ [] → RiseTo place settings hosts next
+    → number_of host ≡ next → IsOf place next → CarriesLink [] host → IsAddressed settings host → RiseTo place settings new (next + 1)
+rises_to hosts new host next is r number is_own carries addressed = rw is (rises_by hosts host next r number is_own carries addressed)
 
 -- CHANGES
 
 -- what contracts see of connections
-abbrev pub state_of : Place → Slab ClientConnection → List HostConnection → History → WorkerConnectionsState
-state_of place clients hosts H = record { place = place; clients = clients; hosts = hosts; steps = H }
+abbrev pub state_of : Place → List Host → Slab ClientConnection → List HostConnection → History → WorkerConnectionsState
+state_of place settings clients hosts H = record { place = place; settings = settings; clients = clients; hosts = hosts; steps = H }
 
 -- a client has a key once
 one_at : (clients : Slab ClientConnection) (key : ℕ) (one two : ClientConnection) → IsAt clients key one → IsAt clients key two → one ≡ two
@@ -412,13 +435,14 @@ one_at clients key one two first second = cc
 none_at : (clients : Slab ClientConnection) (key : ℕ) (one : ClientConnection) → get clients key ≡ None → IsAt clients key one → ⊥
 none_at clients key one none there = absurd cc
 
-module _ {place : Place} (clients : Slab ClientConnection) (hosts : List HostConnection) (key : ℕ) (one two : ClientConnection) (H H' : History) (stands : IsAt clients key one) where
+module _ {place : Place} {settings : List Host} (clients : Slab ClientConnection) (hosts : List HostConnection) (key : ℕ) (one two : ClientConnection) (H H' : History) (stands : IsAt clients key one) where
   -- the client at a key made steps
-  pub changes_client : KeepsSocket one.engine two.engine H H' → ChangesClient key (state_of place clients hosts H) (state_of place (with_value clients key two) hosts H')
+  pub changes_client : KeepsSocket one.engine two.engine H H' → ChangesClient key (state_of place settings clients hosts H) (state_of place settings (with_value clients key two) hosts H')
   changes_client keeps =
       let updates : Updates clients (with_value clients key two) key (Some two) = Updates-with_value clients key two (rw stands refl) in
       record {
         place = refl;
+        settings = refl;
         hosts = refl;
         others = updates.others;
         stays = λ client there. (two, updates.changed, rw (one_at clients key client one there stands) keeps);
@@ -426,23 +450,30 @@ module _ {place : Place} (clients : Slab ClientConnection) (hosts : List HostCon
       }
 
 -- the engine of the client at a key is as it was
-pub changes_same : {place : Place} → (clients : Slab ClientConnection) (hosts : List HostConnection) (key : ℕ) (one two : ClientConnection) (H : History) → IsAt clients key one
-    → two.engine ≡ one.engine → ChangesClient key (state_of place clients hosts H) (state_of place (with_value clients key two) hosts H)
+pub changes_same : {place : Place} → {settings : List Host} → (clients : Slab ClientConnection) (hosts : List HostConnection) (key : ℕ) (one two : ClientConnection) (H : History) → IsAt clients key one
+    → two.engine ≡ one.engine → ChangesClient key (state_of place settings clients hosts H) (state_of place settings (with_value clients key two) hosts H)
 changes_same clients hosts key one two H stands same =
     changes_client clients hosts key one two H H stands (rw same (engines.KeepsSocket-same one.engine H))
 
+-- the writer of the client at a key has passed on what it took
+pub changes_passed : {place : Place} → {settings : List Host} → (clients : Slab ClientConnection) (hosts : List HostConnection) (key : ℕ) (one two : ClientConnection) (H : History) → IsAt clients key one
+    → PassesOn one.engine two.engine → ChangesClient key (state_of place settings clients hosts H) (state_of place settings (with_value clients key two) hosts H)
+changes_passed clients hosts key one two H stands passes =
+    changes_client clients hosts key one two H H stands (KeepsSocket-passes_on one.engine two.engine H passes)
+
 -- the client at a key takes in nothing more
-pub changes_drained : {place : Place} → (clients : Slab ClientConnection) (hosts : List HostConnection) (key : ℕ) (one two : ClientConnection) (H : History) → IsAt clients key one
-    → two.engine ≡ record one.engine { is_drained = true } → ChangesClient key (state_of place clients hosts H) (state_of place (with_value clients key two) hosts H)
+pub changes_drained : {place : Place} → {settings : List Host} → (clients : Slab ClientConnection) (hosts : List HostConnection) (key : ℕ) (one two : ClientConnection) (H : History) → IsAt clients key one
+    → two.engine ≡ record one.engine { is_drained = true } → ChangesClient key (state_of place settings clients hosts H) (state_of place settings (with_value clients key two) hosts H)
 changes_drained clients hosts key one two H stands drained =
     changes_client clients hosts key one two H H stands (rw drained (engines.KeepsSocket-drained one.engine H))
 
 -- a host made steps
-pub changes_host : {place : Place} → (clients : Slab ClientConnection) (hosts : List HostConnection) (index : ℕ) (one two : HostConnection) (H H' : History) → index < length hosts
+pub changes_host : {place : Place} → {settings : List Host} → (clients : Slab ClientConnection) (hosts : List HostConnection) (index : ℕ) (one two : HostConnection) (H H' : History) → index < length hosts
     → one ≡ get_or hosts index one → KeepsHost (ends_of one.engine) (ends_of two.engine) H H'
-    → ChangesHost index (state_of place clients hosts H) (state_of place clients (set hosts index two) H')
+    → ChangesHost index (state_of place settings clients hosts H) (state_of place settings clients (set hosts index two) H')
 changes_host clients hosts index one two H H' within is_one keeps = record {
   place = refl;
+  settings = refl;
   clients = refl;
   many = length-set hosts index two;
   others = λ i d differs. get_or-set_other hosts index i two d differs;
@@ -453,16 +484,17 @@ changes_host clients hosts index one two H H' within is_one keeps = record {
 }
 
 -- a host is as it was
-pub changes_same_host : {place : Place} → (clients : Slab ClientConnection) (hosts : List HostConnection) (index : ℕ) (one : HostConnection) (H : History) → index < length hosts
-    → one ≡ get_or hosts index one → ChangesHost index (state_of place clients hosts H) (state_of place clients (set hosts index one) H)
+pub changes_same_host : {place : Place} → {settings : List Host} → (clients : Slab ClientConnection) (hosts : List HostConnection) (index : ℕ) (one : HostConnection) (H : History) → index < length hosts
+    → one ≡ get_or hosts index one → ChangesHost index (state_of place settings clients hosts H) (state_of place settings clients (set hosts index one) H)
 changes_same_host clients hosts index one H within is_one =
     changes_host clients hosts index one one H H within is_one (engines.KeepsLink-same no_logs (ends_of one.engine) H)
 
-module _ (old new : WorkerConnectionsState) (place : new.place ≡ old.place) (hosts : new.hosts ≡ old.hosts) (stay : KeepsClients old.clients new.clients) where
+module _ (old new : WorkerConnectionsState) (place : new.place ≡ old.place) (settings : new.settings ≡ old.settings) (hosts : new.hosts ≡ old.hosts) (stay : KeepsClients old.clients new.clients) where
   -- a connection was opened
   pub adds_opened : (engine : Engine) (H : History) → OpensSocket engine old.steps H → new.steps ≡ H → AddsClient old new
   adds_opened engine H o steps = record {
     place = place;
+    settings = settings;
     hosts = hosts;
     stay = stay;
     conn = engine.conn;

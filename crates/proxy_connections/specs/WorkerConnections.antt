@@ -1,5 +1,5 @@
 -- What a worker keeps of all its clients and hosts, and what each call may change of them.
-use Rattle.std.specs.Prelude.{◌≡◌, ◌≢◌, ◌⊎◌, ◌<◌, ◌≤◌, ◌++◌, ℕ, List, [], Some, None, length, map, slice_index_or}
+use Rattle.std.specs.Prelude.{◌≡◌, ◌≢◌, ⊤, true, ◌<◌, ◌≤◌, ◌++◌, ℕ, List, [], Some, None, length, map, slice_get, slice_index_or}
 use Rattle.std.specs.List.{All}
 use Rattle.slab.specs.Slab.{Slab, Updates, SameValues, get}
 use Rattle.proxy_history.specs.History.{History}
@@ -15,17 +15,19 @@ use Rattle.proxy_history.specs.declared.answer.Answer.{Answer}
 use Rattle.proxy_history.specs.declared.event.Event.{Event}
 use Rattle.proxy_core.specs.Recorded.{Origin}
 use Rattle.proxy_connections.specs.Sockets.{KeepsHost}
+use Rattle.proxy_config.specs.declared.config.Host.{Host}
 use Rattle.proxy_notices.specs.Places.{IsOf, hosts_of}
 use Rattle.proxy_notices.specs.declared.place.Place.{Place}
 use Rattle.proxy_connections.specs.Places.{KeepsToPlace}
+use Rattle.proxy_connections.specs.Stages.{HasPassedAll, MayGoOver, is_lingering}
 use Rattle.proxy_connections.specs.declared.client_connection.ClientConnection.{ClientConnection}
-use Rattle.proxy_connections.specs.declared.client_connection.SocketStage.{SocketStage}
 use Rattle.proxy_connections.specs.declared.client_connection.Stepped.{Stepped}
 use Rattle.proxy_connections.specs.declared.host_connection.HostConnection.{HostConnection}
 
--- a worker's place, its clients by their keys, its hosts, and the steps that it made, the newest first
+-- a worker's place, the hosts of the settings, its clients by their keys, its own hosts, and the steps that it made, the newest first
 pub record WorkerConnectionsState : Type 0 where
   pub place : Place
+  pub settings : List Host
   pub clients : Slab ClientConnection
   pub hosts : List HostConnection
   pub steps : History
@@ -53,23 +55,28 @@ number_of host = host.engine.outbox.host
 abbrev pub CarriesLink : History → HostConnection → Type 0
 CarriesLink steps host = CarriesHostLogs host.engine.outbox host.engine.link steps no_logs
 
--- Each host's engine carries its link's logs, each host is of this place, and no host stands twice.
-pub record ServesHosts (place : Place) (hosts : List HostConnection) (steps : History) : Type 0 where
+-- a host has the address that the settings have at its number
+abbrev pub IsAddressed : List Host → HostConnection → Type 0
+IsAddressed settings host = (entry : Host) × (slice_get settings (number_of host) ≡ Some entry) × (host.link ≡ entry.address)
+
+-- Each host's engine carries its link's logs, each host is of this place and has its address of the settings, and no host stands twice.
+pub record ServesHosts (place : Place) (settings : List Host) (hosts : List HostConnection) (steps : History) : Type 0 where
   pub carries : All (CarriesLink steps) hosts
   pub own : All (λ host. IsOf place (number_of host)) hosts
+  pub addressed : All (IsAddressed settings) hosts
   pub apart : (i j : ℕ) (one two : HostConnection) → i < length hosts → j < length hosts
       → number_of (slice_index_or hosts i one) ≡ number_of (slice_index_or hosts j two) → i ≡ j
 
 -- hosts over no steps: those of this place, each with a number below this one
-pub record RiseTo (place : Place) (hosts : List HostConnection) (next : ℕ) : Type 0 where
-  pub serves : ServesHosts place hosts []
+pub record RiseTo (place : Place) (settings : List Host) (hosts : List HostConnection) (next : ℕ) : Type 0 where
+  pub serves : ServesHosts place settings hosts []
   pub all : map number_of hosts ≡ hosts_of place next
   pub below : All (λ host. number_of host < next) hosts
 
 -- A worker's clients and hosts are served, over the steps that it made, and none of these is of a host of another place.
-pub record IsServing (place : Place) (clients : Slab ClientConnection) (hosts : List HostConnection) (steps : History) : Type 0 where
+pub record IsServing (place : Place) (settings : List Host) (clients : Slab ClientConnection) (hosts : List HostConnection) (steps : History) : Type 0 where
   pub clients_are : ServesClients clients steps
-  pub hosts_are : ServesHosts place hosts steps
+  pub hosts_are : ServesHosts place settings hosts steps
   pub keeps : KeepsToPlace place steps
 
 -- An engine that is no client's yet: it carries all that its socket's logs hold, steps were made of its connection, and no client
@@ -89,6 +96,7 @@ steps_of seat = own_steps seat.pass.number seat.pass.known.seen
 -- socket's logs: the steps made are its connection's alone.
 pub record ChangesClient (key : ℕ) (old new : WorkerConnectionsState) : Type 0 where
   pub place : new.place ≡ old.place
+  pub settings : new.settings ≡ old.settings
   pub hosts : new.hosts ≡ old.hosts
   pub others : (other : ℕ) → other ≢ key → get new.clients other ≡ get old.clients other
   pub stays : (client : ClientConnection) → IsAt old.clients key client
@@ -99,6 +107,7 @@ pub record ChangesClient (key : ℕ) (old new : WorkerConnectionsState) : Type 0
 -- made are the host's alone.
 pub record ChangesHost (index : ℕ) (old new : WorkerConnectionsState) : Type 0 where
   pub place : new.place ≡ old.place
+  pub settings : new.settings ≡ old.settings
   pub clients : new.clients ≡ old.clients
   pub many : length new.hosts ≡ length old.hosts
   pub others : (i : ℕ) (d : HostConnection) → i ≢ index → slice_index_or new.hosts i d ≡ slice_index_or old.hosts i d
@@ -114,6 +123,7 @@ KeepsClients old new = (key : ℕ) (client : ClientConnection) → IsAt old key 
 -- before.
 pub record AddsClient (old new : WorkerConnectionsState) : Type 0 where
   pub place : new.place ≡ old.place
+  pub settings : new.settings ≡ old.settings
   pub hosts : new.hosts ≡ old.hosts
   pub stay : KeepsClients old.clients new.clients
   pub conn : ℕ
@@ -125,6 +135,7 @@ pub record AddsClient (old new : WorkerConnectionsState) : Type 0 where
 -- the client at this key, if there is one, is gone, and nothing else has changed
 pub record RemovesClient (key : ℕ) (old new : WorkerConnectionsState) : Type 0 where
   pub place : new.place ≡ old.place
+  pub settings : new.settings ≡ old.settings
   pub hosts : new.hosts ≡ old.hosts
   pub steps : new.steps ≡ old.steps
   pub clients : Updates old.clients new.clients key None
@@ -132,14 +143,23 @@ pub record RemovesClient (key : ℕ) (old new : WorkerConnectionsState) : Type 0
 -- there is room for more clients, and nothing else has changed
 pub record MakesRoom (old new : WorkerConnectionsState) : Type 0 where
   pub place : new.place ≡ old.place
+  pub settings : new.settings ≡ old.settings
   pub hosts : new.hosts ≡ old.hosts
   pub steps : new.steps ≡ old.steps
   pub clients : SameValues old.clients new.clients
 
--- the client at this key, if there is one, isn't served any more: its engine isn't stepped from here on
-abbrev pub IsLeaving : Slab ClientConnection → ℕ → Type 0
-IsLeaving clients key = (client : ClientConnection) → IsAt clients key client → client.stage ≢ SocketStage.Served
+-- The client at this key, if there is one, may be dropped: its engine isn't stepped any more, its sending half is closed, and all
+-- that its writer took has passed to the system, unless a write failed.
+abbrev pub MayClose : Slab ClientConnection → ℕ → Type 0
+MayClose clients key = (client : ClientConnection) → IsAt clients key client
+    → (is_lingering client.stage ≡ true) × HasPassedAll client.engine.outbox
 
--- a result by which a client's socket is to be dropped, or goes over
-abbrev pub IsLast : Stepped → Type 0
-IsLast stepped = (stepped ≡ Stepped.Closed) ⊎ (stepped ≡ Stepped.CarriedOver)
+-- the socket of the client at this key, if there is one, may go over
+abbrev pub MayCarry : Slab ClientConnection → ℕ → Type 0
+MayCarry clients key = (client : ClientConnection) → IsAt clients key client → MayGoOver client.engine
+
+-- what a client's round says of the one at this key: it may be dropped, or its socket may go over, where that is its result
+abbrev pub LetsGo : Stepped → Slab ClientConnection → ℕ → Type 0
+LetsGo Stepped.Closed clients key = MayClose clients key
+LetsGo Stepped.CarriedOver clients key = MayCarry clients key
+LetsGo stepped clients key = ⊤

@@ -1,16 +1,18 @@
 //! A client's connection, as its worker holds it.
-ghost use Rattle.std.specs.Prelude.{◌≡◌, ◌≢◌, ◌⊎◌, true, IfOk, OnErr};
+ghost use Rattle.std.specs.Prelude.{◌≡◌, ◌≢◌, true, false, Some, Ok, Err, IfOk, IfErr, IfSome, OnErr};
 ghost use Rattle.proxy_engines.specs.Keeps.{KeepsSocket};
+ghost use Rattle.proxy_engines.specs.OneTurn.{IsDueError};
 ghost use Rattle.proxy_engines.specs.Turns.{own_history};
-ghost use Rattle.proxy_connections.specs.WorkerConnections.{IsLast};
+ghost use Rattle.proxy_connections.specs.Stages.{ComesTo, HasGoneOut, HasPassedAll, IsOverAt, MayGoOver, PassesOn, TellsClosed, TellsEnd, end_of, is_lingering};
 ghost use Rattle.proxy_connections.specs.Sockets.{CarriesItsSocket, MayDrain, OpensSocket};
 
 use crate::socket::{Reader, SharedStream, Socket, Writer, note_readable, note_writable};
+use crate::stage::{EngineEnd, SocketStage};
 use crate::step_error::StepError;
+use fresh_stream::FreshStream;
 use journal_room::{HeldTurns, JournalRoom, MeteredTurns, TurnCounts};
 use limits::{LINGER_MS, MAX_SPARED};
 use mio::event::Event as Readiness;
-use mio::net::TcpStream;
 use mio::{Registry, Token};
 use proxy_engines::{ClientEngine, EngineError, Progress, Rest};
 use proxy_exit_status::Ending;
@@ -26,17 +28,6 @@ const MAX_CLIENT_STEPS: u32 = 256;
 
 type Engine = ClientEngine<Reader, Writer>;
 
-/// The stage of a client's socket.
-#[derive(Clone, Copy, Drop)]
-enum SocketStage {
-    Served,
-    /// Its engine isn't stepped any more: its connection is closed, its device has failed, or the journal has no room for
-    /// its next turn. The socket goes over, or its last bytes are written.
-    Leaving,
-    /// The sending half is closed; input is discarded until this moment.
-    Lingering { until: u64 },
-}
-
 #[derive(Clone, Copy, Drop)]
 pub(crate) struct ClientRound<'a> {
     pub(crate) room: &'a JournalRoom,
@@ -44,7 +35,6 @@ pub(crate) struct ClientRound<'a> {
     /// Steps of the journal that the worker keeps for its links.
     pub(crate) reserve: u64,
     pub(crate) most_parts: u64,
-    /// Whether sockets may go over to a newer generation.
     pub(crate) carries_over: bool,
 }
 
@@ -57,7 +47,7 @@ pub(crate) struct PollPlace<'a> {
 /// What a worker lends to one connection after another.
 #[derive(Drop)]
 pub(crate) struct Lent {
-    /// For the output of a socket; empty in between.
+    /// Empty while no socket has output.
     pub(crate) buffer: Vec<u8>,
     pub(crate) durations: Histogram,
 }
@@ -80,10 +70,8 @@ impl Intake {
     }
 }
 
-/// What one step of a client came to.
 #[derive(Clone, Copy, Drop)]
 enum ClientMoved {
-    /// More can be done.
     On,
     /// Nothing more can be done for now.
     Waits,
@@ -102,7 +90,7 @@ pub enum Stepped {
     CarriedOver,
 }
 
-/// A socket on its way to the next generation, with its input that no command was made of and its output that isn't written.
+/// A socket on its way to the next generation, with its input that no command was made of and its unwritten output.
 pub struct CarriedSocket {
     stream: SharedStream,
     reader: Reader,
@@ -136,15 +124,14 @@ impl Model for CarriedSocket {
 }
 
 impl CarriedSocket {
-    /// Writes buffered bytes as far as the socket takes them, and closes the sending half: the newest generation takes
-    /// no further connection.
+    /// The newest generation takes no further connection.
     pub(crate) fn shut_down(&mut self, buffer: &mut Vec<u8>) {
         self.writer.write_out(buffer);
         self.stream.shut_write();
         let _ = self.reader.throw_away();
     }
 
-    // Opens a connection on this socket, which is registered with the poll. If the turn is refused it comes back.
+    // The socket is registered with the poll. It comes back if the turn is refused.
     fn into_client<R: Wait, T: HeldTurns>(
         self,
         rt: &R,
@@ -153,10 +140,10 @@ impl CarriedSocket {
         registry: &Registry,
     ) -> Result<ClientConnection, (EngineError, CarriedSocket)>
         ensures ok { IfOk result (λ c. OpensSocket c.engine
-            (own_history T.pass T.seen turns.old.turns)
-            (own_history T.pass T.seen turns.new.turns)) }
-        ensures err { OnErr result (own_history T.pass T.seen turns.new.turns
-            ≡ own_history T.pass T.seen turns.old.turns) }
+            (own_history (T.facts turns.old.turns))
+            (own_history (T.facts turns.new.turns))) }
+        ensures err { OnErr result (own_history (T.facts turns.new.turns)
+            ≡ own_history (T.facts turns.old.turns)) }
     {
         let CarriedSocket {
             stream,
@@ -198,9 +185,14 @@ pub(crate) struct ClientConnection {
     // The last round ended before all was done.
     has_more: bool,
     refusals: Refusals,
-    // The bytes that had come when a command was last accepted, and the bytes since.
+    // The bytes that had come when a command was last accepted.
     begun: u64,
+    // The bytes that came since.
     unfinished: u64,
+
+    ghost over: { IsOverAt stage engine },
+
+    ghost gone_out: { HasGoneOut stage engine },
 }
 
 impl Drop for ClientConnection {
@@ -220,7 +212,8 @@ impl Drop for ClientConnection {
 
 impl ClientConnection {
     fn new(alloc: Global, engine: Engine, stream: SharedStream) -> ClientConnection
-        ensures { result.engine ≡ engine }
+        ensures engine { result.engine ≡ engine }
+        ensures stage { result.stage ≡ SocketStage.Served }
     {
         ClientConnection {
             engine,
@@ -238,13 +231,13 @@ impl ClientConnection {
         rt: &R,
         alloc: Global,
         turns: &mut MeteredTurns<T>,
-        stream: TcpStream,
+        stream: FreshStream,
     ) -> Result<ClientConnection, EngineError>
         ensures ok { IfOk result (λ c. OpensSocket c.engine
-            (own_history T.pass T.seen turns.old.turns)
-            (own_history T.pass T.seen turns.new.turns)) }
-        ensures err { OnErr result (own_history T.pass T.seen turns.new.turns
-            ≡ own_history T.pass T.seen turns.old.turns) }
+            (own_history (T.facts turns.old.turns))
+            (own_history (T.facts turns.new.turns))) }
+        ensures err { OnErr result (own_history (T.facts turns.new.turns)
+            ≡ own_history (T.facts turns.old.turns)) }
     {
         let Ok(
             Socket {
@@ -260,7 +253,6 @@ impl ClientConnection {
         Ok(ClientConnection::new(alloc, engine, stream))
     }
 
-    /// Opens a connection on a socket from another generation. If the turn is refused the socket comes back.
     pub(crate) fn open_carried<R: Wait, T: HeldTurns>(
         rt: &R,
         alloc: Global,
@@ -269,10 +261,10 @@ impl ClientConnection {
         carried: CarriedSocket,
     ) -> Result<ClientConnection, (EngineError, CarriedSocket)>
         ensures ok { IfOk result (λ c. OpensSocket c.engine
-            (own_history T.pass T.seen turns.old.turns)
-            (own_history T.pass T.seen turns.new.turns)) }
-        ensures err { OnErr result (own_history T.pass T.seen turns.new.turns
-            ≡ own_history T.pass T.seen turns.old.turns) }
+            (own_history (T.facts turns.old.turns))
+            (own_history (T.facts turns.new.turns))) }
+        ensures err { OnErr result (own_history (T.facts turns.new.turns)
+            ≡ own_history (T.facts turns.old.turns)) }
     {
         if carried
             .stream
@@ -288,8 +280,10 @@ impl ClientConnection {
         room.note_unfinished(self.unfinished, 0);
     }
 
-    pub(crate) fn carry(self, registry: &Registry, room: &JournalRoom) -> Option<CarriedSocket>
-        requires { CarriesItsSocket self.engine }
+    /// Its socket, with its unused input, for another generation.
+    pub(crate) fn carry(self, registry: &Registry, room: &JournalRoom) -> CarriedSocket
+        requires carries { CarriesItsSocket self.engine }
+        requires may { MayGoOver self.engine }
     {
         let ClientConnection {
             engine,
@@ -302,25 +296,27 @@ impl ClientConnection {
             refusals: _,
         } = self;
         room.note_unfinished(0, unfinished);
-        let (reader, writer, rest) = engine.into_rest()?;
+        let Some((reader, writer, rest)) = engine.into_rest() else {
+            unreachable!()
+        };
         stream.deregister(registry);
-        Some(CarriedSocket {
+        CarriedSocket {
             stream,
             reader,
             writer,
             rest,
             begun,
-        })
+        }
     }
 
     pub(crate) fn on_readiness(&mut self, event: &Readiness)
-        ensures { self.new.engine ≡ self.old.engine }
+        ensures engine { self.new.engine ≡ self.old.engine }
+        ensures stage { self.new.stage ≡ self.old.stage }
     {
         note_readable(self.engine.reader_mut(), event);
         note_writable(self.engine.writer_mut(), event);
     }
 
-    /// Takes in no further commands. Accepted ones are answered, then the connection is closed.
     pub(crate) fn drain(&mut self)
         ensures engine { self.new.engine ≡ record self.old.engine { is_drained = true } }
         ensures stage { self.new.stage ≡ self.old.stage }
@@ -329,18 +325,18 @@ impl ClientConnection {
         self.has_more = true;
     }
 
-    /// Ends the input behind the bytes that have come. Those are answered, then the connection is closed.
     pub(crate) fn end_input(&mut self)
-        ensures { self.new.engine ≡ self.old.engine }
+        ensures engine { self.new.engine ≡ self.old.engine }
+        ensures stage { self.new.stage ≡ self.old.stage }
     {
         self.engine.reader_mut().end_input();
         self.has_more = true;
     }
 
-    /// Writes what the socket takes at once, closes the sending half, and discards what has come: closing a socket with
-    /// unread bytes would lose the last answers.
+    /// It discards what has come: a socket closed with unread bytes would lose the last answers.
     pub(crate) fn shut_down(&mut self, buffer: &mut Vec<u8>)
-        ensures { self.new.engine ≡ self.old.engine }
+        ensures engine { PassesOn self.old.engine self.new.engine }
+        ensures stage { self.new.stage ≡ self.old.stage }
     {
         self.write_out(buffer);
         self.stream.shut_write();
@@ -360,7 +356,6 @@ impl ClientConnection {
         self.engine.unanswered() > 0
     }
 
-    /// Whether it waits for replies, and all that was handed out to it is written.
     pub(crate) fn may_be_answered(&self) -> bool {
         self.awaits_reply()
             && matches!(self.stage, SocketStage::Served)
@@ -371,13 +366,12 @@ impl ClientConnection {
         self.has_more
     }
 
-    /// Whether a round may make progress.
     pub(crate) fn may_go(&self, now: u64) -> bool {
         if self.has_more {
             return true;
         }
         let may_read = self.engine.reader().may_read();
-        if let SocketStage::Lingering { until } = self.stage {
+        if let SocketStage::Lingering { until, .. } = self.stage {
             return now >= until || may_read;
         }
         may_read || self.engine.writer().may_write() || self.awaits_reply()
@@ -392,17 +386,22 @@ impl ClientConnection {
         round: ClientRound<'_>,
     ) -> Result<Stepped, StepError>
         ensures keeps { KeepsSocket self.old.engine self.new.engine
-            (own_history T.pass T.seen turns.old.turns)
-            (own_history T.pass T.seen turns.new.turns) }
-        ensures leaves { IfOk result (λ s. IsLast s → self.new.stage ≢ SocketStage.Served) }
+            (own_history (T.facts turns.old.turns))
+            (own_history (T.facts turns.new.turns)) }
+        ensures left { self.old.stage ≡ SocketStage.Served → IfSome (end_of self.new.stage)
+            (ComesTo (IsDueError (T.cause (T.facts turns.new.turns).setting)
+            (T.facts turns.new.turns).seen) self.new.engine) }
+        ensures closed { result ≡ Ok Stepped.Closed → (is_lingering self.new.stage ≡ true)
+            × HasPassedAll self.new.engine.outbox }
+        ensures carried { result ≡ Ok Stepped.CarriedOver → MayGoOver self.new.engine }
     {
         self.has_more = false;
         match self.stage {
             SocketStage::Served => self.step_and_write(rt, turns, lent, round)?,
-            SocketStage::Leaving => self.write_out(&mut lent.buffer),
+            SocketStage::Leaving { .. } => self.write_out(&mut lent.buffer),
             SocketStage::Lingering { .. } => {}
         }
-        if matches!(self.stage, SocketStage::Leaving)
+        if matches!(self.stage, SocketStage::Leaving { .. })
             && round.carries_over
             && self.may_carry_over()
         {
@@ -418,11 +417,15 @@ impl ClientConnection {
         lent: &mut Lent,
         round: ClientRound<'_>,
     ) -> Result<(), StepError>
-        ensures { KeepsSocket self.old.engine self.new.engine
-            (own_history T.pass T.seen turns.old.turns)
-            (own_history T.pass T.seen turns.new.turns) }
+        requires { self.old.stage ≡ SocketStage.Served }
+        ensures keeps { KeepsSocket self.old.engine self.new.engine
+            (own_history (T.facts turns.old.turns))
+            (own_history (T.facts turns.new.turns)) }
+        ensures left { IfSome (end_of self.new.stage)
+            (ComesTo (IsDueError (T.cause (T.facts turns.new.turns).setting)
+            (T.facts turns.new.turns).seen) self.new.engine) }
     {
-        self.engine.writer_mut().lend_buffer(&mut lent.buffer);
+        self.lend_buffer(&mut lent.buffer);
         let stepped = self.step_engine(rt, turns, round);
         let counts = turns.leave_with_counts();
         self.waits.accepted(round.now, counts.accepted);
@@ -434,7 +437,14 @@ impl ClientConnection {
         stepped
     }
 
-    // The journal has no room for a further command: no client's commands are taken in from here on.
+    fn lend_buffer(&mut self, buffer: &mut Vec<u8>)
+        ensures engine { self.new.engine ≡ self.old.engine }
+        ensures stage { self.new.stage ≡ self.old.stage }
+    {
+        self.engine.writer_mut().lend_buffer(buffer);
+    }
+
+    // No client's commands are taken in from here on.
     fn stop_accepting(&mut self, room: &JournalRoom)
         ensures engine { self.new.engine ≡ record self.old.engine { is_drained = true } }
         ensures stage { self.new.stage ≡ self.old.stage }
@@ -443,17 +453,22 @@ impl ClientConnection {
         self.drain();
     }
 
-    fn may_carry_over(&self) -> bool {
+    fn may_carry_over(&self) -> bool
+        ensures { result ≡ true → MayGoOver self.now.engine }
+    {
         self.engine.may_go_on() && !self.is_broken()
     }
 
-    fn is_broken(&self) -> bool {
+    fn is_broken(&self) -> bool
+        ensures { result ≡ self.now.engine.outbox.passed.has_failed }
+    {
         self.engine.writer().is_broken()
     }
 
-    // Writes buffered bytes as far as the socket takes them. Once a write has failed reads fail too.
+    // Once a write has failed reads fail too.
     fn write_out(&mut self, buffer: &mut Vec<u8>)
-        ensures { self.new.engine ≡ self.old.engine }
+        ensures engine { PassesOn self.old.engine self.new.engine }
+        ensures stage { self.new.stage ≡ self.old.stage }
     {
         self.engine.writer_mut().write_out(buffer);
         if self.is_broken() {
@@ -461,16 +476,20 @@ impl ClientConnection {
         }
     }
 
-    // Steps until nothing more can be done, or `MAX_CLIENT_STEPS` are made, or this worker's share of parts has come.
+    // It stops after `MAX_CLIENT_STEPS`, or once this worker's share of parts has come.
     fn step_engine<R: Wait, T: HeldTurns>(
         &mut self,
         rt: &R,
         turns: &mut MeteredTurns<T>,
         round: ClientRound<'_>,
     ) -> Result<(), StepError>
-        ensures { KeepsSocket self.old.engine self.new.engine
-            (own_history T.pass T.seen turns.old.turns)
-            (own_history T.pass T.seen turns.new.turns) }
+        requires { self.old.stage ≡ SocketStage.Served }
+        ensures keeps { KeepsSocket self.old.engine self.new.engine
+            (own_history (T.facts turns.old.turns))
+            (own_history (T.facts turns.new.turns)) }
+        ensures left { IfSome (end_of self.new.stage)
+            (ComesTo (IsDueError (T.cause (T.facts turns.new.turns).setting)
+            (T.facts turns.new.turns).seen) self.new.engine) }
     {
         let mut intake = Intake::new();
         for _ in 0..MAX_CLIENT_STEPS {
@@ -485,7 +504,7 @@ impl ClientConnection {
         Ok(())
     }
 
-    // Accepts a command or steps once. A command is taken in only if the journal has room for all steps that it will owe.
+    // A command is taken in only if the journal has room for all steps that it will owe.
     fn step<R: Wait, T: HeldTurns>(
         &mut self,
         rt: &R,
@@ -493,25 +512,34 @@ impl ClientConnection {
         round: ClientRound<'_>,
         intake: &mut Intake,
     ) -> Result<ClientMoved, StepError>
-        ensures { KeepsSocket self.old.engine self.new.engine
-            (own_history T.pass T.seen turns.old.turns)
-            (own_history T.pass T.seen turns.new.turns) }
+        requires { self.old.stage ≡ SocketStage.Served }
+        ensures keeps { KeepsSocket self.old.engine self.new.engine
+            (own_history (T.facts turns.old.turns))
+            (own_history (T.facts turns.new.turns)) }
+        ensures on { result ≡ Ok ClientMoved.On → self.new.stage ≡ SocketStage.Served }
+        ensures left { IfSome (end_of self.new.stage)
+            (ComesTo (IsDueError (T.cause (T.facts turns.new.turns).setting)
+            (T.facts turns.new.turns).seen) self.new.engine) }
     {
         self.drain_unless_room(rt, turns, round, &mut intake.room_for);
         let stepped = self.accept_or_step(rt, turns, &mut intake.searched);
         self.handle_stepped(stepped, round.room)
     }
 
-    // Accepts a command that has come whole, if there may be one, or steps the engine once.
     fn accept_or_step<R: Wait, T: HeldTurns>(
         &mut self,
         rt: &R,
         turns: &mut MeteredTurns<T>,
         searched: &mut Option<u64>,
     ) -> Result<Progress, EngineError>
-        ensures { KeepsSocket self.old.engine self.new.engine
-            (own_history T.pass T.seen turns.old.turns)
-            (own_history T.pass T.seen turns.new.turns) }
+        requires { self.old.stage ≡ SocketStage.Served }
+        ensures keeps { KeepsSocket self.old.engine self.new.engine
+            (own_history (T.facts turns.old.turns))
+            (own_history (T.facts turns.new.turns)) }
+        ensures stage { self.new.stage ≡ self.old.stage }
+        ensures closed { TellsClosed self.new.engine result }
+        ensures due { IfErr result (IsDueError (T.cause (T.facts turns.new.turns).setting)
+            (T.facts turns.new.turns).seen) }
     {
         turns.hold();
         let count = self.engine.reader().count();
@@ -527,17 +555,24 @@ impl ClientConnection {
         }
     }
 
-    // Steps the engine once, outside the gate if it may read from the socket.
+    // It leaves the gate if it may read from the socket.
     fn step_once<R: Wait, T: HeldTurns>(
         &mut self,
         rt: &R,
         turns: &mut MeteredTurns<T>,
     ) -> Result<Progress, EngineError>
-        ensures { KeepsSocket self.old.engine self.new.engine
-            (own_history T.pass T.seen turns.old.turns)
-            (own_history T.pass T.seen turns.new.turns) }
+        requires { self.old.stage ≡ SocketStage.Served }
+        ensures keeps { KeepsSocket self.old.engine self.new.engine
+            (own_history (T.facts turns.old.turns))
+            (own_history (T.facts turns.new.turns)) }
+        ensures stage { self.new.stage ≡ self.old.stage }
+        ensures closed { TellsClosed self.new.engine result }
+        ensures due { IfErr result (IsDueError (T.cause (T.facts turns.new.turns).setting)
+            (T.facts turns.new.turns).seen) }
     {
-        turns.leave_if(self.engine.reader().may_read());
+        if self.engine.reader().may_read() {
+            turns.leave();
+        }
         self.engine.step(rt, turns)
     }
 
@@ -549,6 +584,7 @@ impl ClientConnection {
         room_for: &mut Option<u64>,
     )
         ensures drains { MayDrain self.old.engine self.new.engine }
+        ensures stage { self.new.stage ≡ self.old.stage }
         ensures turns { turns.new.turns ≡ turns.old.turns }
     {
         if self.engine.is_drained() || *room_for == Some(turns.counts().accepted) {
@@ -566,56 +602,68 @@ impl ClientConnection {
         stepped: Result<Progress, EngineError>,
         room: &JournalRoom,
     ) -> Result<ClientMoved, StepError>
-        ensures { MayDrain self.old.engine self.new.engine }
+        requires served { self.old.stage ≡ SocketStage.Served }
+        requires closed { TellsClosed self.old.engine stepped }
+        ensures drains { MayDrain self.old.engine self.new.engine }
+        ensures on { result ≡ Ok ClientMoved.On → self.new.stage ≡ SocketStage.Served }
+        ensures left { IfSome (end_of self.new.stage) (TellsEnd stepped) }
     {
         match stepped {
             Ok(progress) => {
                 self.refusals.succeeded();
                 Ok(self.handle_progress(progress))
             }
-            Err(error) => {
-                self.handle_error(StepError::from(error), room)?;
-                Ok(if matches!(self.stage, SocketStage::Leaving) {
-                    ClientMoved::Waits
-                } else {
-                    ClientMoved::On
-                })
-            }
+            Err(error) => self.handle_error(error, room),
         }
     }
 
     fn handle_progress(&mut self, progress: Progress) -> ClientMoved
+        requires served { self.old.stage ≡ SocketStage.Served }
+        requires closed { TellsClosed self.old.engine (Ok progress) }
         ensures engine { self.new.engine ≡ self.old.engine }
-        ensures leaves { self.new.stage ≢ self.old.stage
-            → (progress ≡ Progress.Cut) ⊎ (progress ≡ Progress.Ended) }
+        ensures on { result ≡ ClientMoved.On → self.new.stage ≡ SocketStage.Served }
+        ensures left { IfSome (end_of self.new.stage) (TellsEnd (Ok progress)) }
     {
         match progress {
             Progress::Moved => ClientMoved::On,
             Progress::Idle | Progress::NeedsLink => ClientMoved::Waits,
             Progress::Cut | Progress::Ended => {
-                self.stage = SocketStage::Leaving;
+                self.stage = SocketStage::Leaving {
+                    end: EngineEnd::Closed,
+                };
                 ClientMoved::Waits
             }
         }
     }
 
-    // Handles an error. Without room for a command none is taken in; without room for an answer the connection ends.
-    fn handle_error(&mut self, error: StepError, room: &JournalRoom) -> Result<(), StepError>
+    // Without room for a command, none is taken in. Without room for an answer, the connection ends.
+    fn handle_error(
+        &mut self,
+        error: EngineError,
+        room: &JournalRoom,
+    ) -> Result<ClientMoved, StepError>
+        requires served { self.old.stage ≡ SocketStage.Served }
+        requires closed { TellsClosed self.old.engine (Err error) }
         ensures drains { MayDrain self.old.engine self.new.engine }
-        ensures leaves { self.new.stage ≢ self.old.stage → (error ≡ StepError.EndsOne)
-            ⊎ ((error ≡ StepError.Full) × (self.old.engine.is_drained ≡ true)) }
+        ensures on { result ≡ Ok ClientMoved.On → self.new.stage ≡ SocketStage.Served }
+        ensures left { IfSome (end_of self.new.stage) (TellsEnd (Err error)) }
     {
-        match error {
-            StepError::Full if !self.engine.is_drained() => self.stop_accepting(room),
-            StepError::Full | StepError::EndsOne => self.stage = SocketStage::Leaving,
-            StepError::Memory => return Err(self.refuse()),
-            StepError::Ends(_) => return Err(error),
-        }
-        Ok(())
+        let end = match StepError::from(error) {
+            StepError::Full if !self.engine.is_drained() => {
+                self.stop_accepting(room);
+                return Ok(ClientMoved::On);
+            }
+            StepError::Full => EngineEnd::NoRoom,
+            StepError::EndsOne => EngineEnd::of(error),
+            StepError::Memory => return Err(self.count_no_memory()),
+            StepError::Ends(ending) => return Err(StepError::Ends(ending)),
+        };
+        self.stage = SocketStage::Leaving { end };
+        Ok(ClientMoved::Waits)
     }
 
-    /// Counts a refusal of memory. The step is made again, unless too many were refused in a row.
-    pub(crate) fn refuse(&mut self) -> StepError
+    /// The step is made again, unless too many were refused in a row.
+    pub(crate) fn count_no_memory(&mut self) -> StepError
         ensures engine { self.new.engine ≡ self.old.engine }
         ensures stage { self.new.stage ≡ self.old.stage }
     {
@@ -627,9 +675,10 @@ impl ClientConnection {
         }
     }
 
-    // Counts the bytes of an unfinished command, and ends the connection if all connections together have too many.
+    // The connection ends if all connections together have too many unfinished bytes.
     fn count_unfinished_bytes(&mut self, room: &JournalRoom, counts: TurnCounts)
-        ensures { self.new.engine ≡ self.old.engine }
+        ensures engine { PassesOn self.old.engine self.new.engine }
+        ensures stage { self.new.stage ≡ self.old.stage }
     {
         let count = self.engine.reader().count();
         if counts.accepted > 0 {
@@ -646,43 +695,51 @@ impl ClientConnection {
         }
     }
 
-    // Finishes a connection that was closed: once its last bytes are written the sending half is closed, and input is
-    // discarded for a while.
+    // Once its last bytes are written the sending half is closed, and input is discarded for a while.
     fn finish_closing(&mut self, round: ClientRound<'_>) -> Stepped
         ensures engine { self.new.engine ≡ self.old.engine }
-        ensures leaves { IsLast result → self.new.stage ≢ SocketStage.Served }
+        ensures end { end_of self.new.stage ≡ end_of self.old.stage }
+        ensures closed { result ≡ Stepped.Closed → is_lingering self.new.stage ≡ true }
+        ensures stays { result ≢ Stepped.CarriedOver }
     {
-        if matches!(self.stage, SocketStage::Leaving) && !self.has_output() {
-            self.begin_lingering(round);
+        if let SocketStage::Leaving { end } = self.stage {
+            if !self.has_output() {
+                self.begin_lingering(end, round);
+            }
         }
         match self.stage {
             SocketStage::Served if self.has_more => Stepped::Ready,
-            SocketStage::Served | SocketStage::Leaving => Stepped::Idle,
-            SocketStage::Lingering { until } => self.linger(round.now >= until),
+            SocketStage::Served | SocketStage::Leaving { .. } => Stepped::Idle,
+            SocketStage::Lingering { until, .. } => self.linger(round.now >= until),
         }
     }
 
-    // Whether bytes for the socket are buffered, which it may still take.
-    fn has_output(&self) -> bool {
+    fn has_output(&self) -> bool
+        ensures { result ≡ false → HasPassedAll self.now.engine.outbox }
+    {
         self.engine.writer().has_buffered() && !self.is_broken()
     }
 
-    fn begin_lingering(&mut self, round: ClientRound<'_>)
+    fn begin_lingering(&mut self, end: EngineEnd, round: ClientRound<'_>)
+        requires end { end_of self.old.stage ≡ Some end }
+        requires passed { HasPassedAll self.old.engine.outbox }
         ensures engine { self.new.engine ≡ self.old.engine }
-        ensures stage { self.new.stage ≢ SocketStage.Served }
+        ensures end { end_of self.new.stage ≡ Some end }
     {
         self.stream.shut_write();
         round.room.note_unfinished(0, self.unfinished);
         self.unfinished = 0;
         self.stage = SocketStage::Lingering {
+            end,
             until: round.now.saturating_add(LINGER_MS),
         };
     }
 
-    // Discards what has come, until the input ends or it is time to close the socket.
+    // Input is discarded until it ends, or until it is time to close the socket.
     fn linger(&mut self, is_over: bool) -> Stepped
         ensures engine { self.new.engine ≡ self.old.engine }
         ensures stage { self.new.stage ≡ self.old.stage }
+        ensures stays { result ≢ Stepped.CarriedOver }
     {
         if is_over || self.is_broken() {
             return Stepped::Closed;

@@ -1,27 +1,28 @@
 //! A host's connection, as its worker holds it.
-ghost use Rattle.std.specs.Prelude.{◌≡◌, [], None, IfOk};
+ghost use Rattle.std.specs.Prelude.{◌≡◌, [], None, Some, IfOk};
 ghost use Rattle.proxy_history.specs.History.{History};
 ghost use Rattle.proxy_engines.specs.HostStep.{ends_of};
 ghost use Rattle.proxy_engines.specs.Turns.{own_history};
 ghost use Rattle.proxy_connections.specs.Sockets.{KeepsHost};
 ghost use Rattle.proxy_connections.specs.WorkerConnections.{CarriesLink};
 
-use crate::socket::{Reader, SharedStream, Socket, Writer, note_readable, note_writable};
+use crate::host_link::{HostLink, LinkState};
+use crate::round::HostRound;
+use crate::socket::{Reader, Socket, Writer, note_readable, note_writable};
 use crate::step_error::StepError;
+use fresh_stream::{Connected, FreshStream};
 use journal_room::{HeldTurns, JournalRoom, MeteredTurns, TurnCounts};
-use limits::{CONNECTING_MS, MAX_HOSTS, TELL_MS};
+use limits::{MAX_HOSTS, TELL_MS};
 use mio::event::Event as Readiness;
-use mio::net::TcpStream;
-use mio::{Interest, Registry, Token};
+use mio::Token;
 use proxy_engines::{EngineError, HostEngine, Progress};
 use proxy_exit_status::Ending;
 use proxy_serve_core::Refusals;
 use std::alloc::Global;
-use std::mem;
 use std::net::{Net, SocketAddr};
 use std::sync::Wait;
 
-// The most steps of one host in a round, and the most sends before each.
+// The most steps of one host in a round, and the most sends before each step.
 const MAX_HOST_STEPS: u32 = 4_096;
 
 // A host is looked at after this many milliseconds at the latest, so that a late reply is noticed.
@@ -29,35 +30,11 @@ const LOOK_MS: u64 = 10;
 
 type Engine = HostEngine<Reader, Writer>;
 
-#[derive(Drop)]
-enum LinkState {
-    Down,
-    /// Connecting since this moment; `has_event`: the poll has reported an event.
-    Connecting {
-        stream: TcpStream,
-        since: u64,
-        has_event: bool,
-    },
-    /// The engine has its two halves.
-    Up(SharedStream),
-}
-
-#[derive(Clone, Copy, Drop)]
-enum ConnectOutcome {
-    Pending,
-    /// It failed, or took too long.
-    Refused,
-    Established,
-}
-
-/// What one step of a host came to.
 #[derive(Clone, Copy, Drop)]
 enum HostMoved {
-    /// More can be done.
     On,
-    /// A connection attempt was refused, and more can be done.
+    /// A connection attempt was refused.
     Refused,
-    /// Nothing more can be done for now.
     Waits,
 }
 
@@ -70,23 +47,10 @@ pub enum HostStepped {
     Unreachable,
 }
 
-#[derive(Clone, Copy, Drop)]
-pub(crate) struct HostRound<'a> {
-    pub(crate) room: &'a JournalRoom,
-    /// Where links are registered for the worker's poll.
-    pub(crate) registry: &'a Registry,
-    pub(crate) now: u64,
-    pub(crate) gives_up: bool,
-}
-
 pub(crate) struct HostConnection {
     alloc: Global,
     engine: Engine,
-    address: SocketAddr,
-    // The token of its links with the poll.
-    token: Token,
-    reply_ms: u64,
-    link: LinkState,
+    link: HostLink,
     looked: u64,
     // The last round ended before all was done.
     has_more: bool,
@@ -103,9 +67,6 @@ impl Drop for HostConnection {
         let HostConnection {
             alloc: _,
             engine: _,
-            address: _,
-            token: _,
-            reply_ms: _,
             link: _,
             looked: _,
             has_more: _,
@@ -126,15 +87,13 @@ impl HostConnection {
         reply_ms: u64,
     ) -> HostConnection
         ensures host { result.engine.outbox.host ≡ host }
+        ensures address { result.link ≡ address }
         ensures carries { CarriesLink [] result }
     {
         HostConnection {
             alloc,
             engine: HostEngine::new(alloc, host, reply_ms),
-            address,
-            token,
-            reply_ms,
-            link: LinkState::Down,
+            link: HostLink::new(address, token, reply_ms),
             looked: 0,
             has_more: true,
             refusals: Refusals::new(),
@@ -144,30 +103,25 @@ impl HostConnection {
         }
     }
 
-    /// The host's bit: of host h it is bit h.
+    /// Host h has bit h.
     pub(crate) fn bit(&self) -> u64 {
         let host = self.engine.host();
         if host < MAX_HOSTS { 1 << host } else { 0 }
     }
 
     pub(crate) fn address(&self) -> SocketAddr {
-        self.address
+        self.link.address()
     }
 
-    /// Whether a link has been connecting for less than `CONNECTING_MS`.
     pub(crate) fn is_connecting(&self, now: u64) -> bool {
-        match &self.link {
-            LinkState::Connecting { since, .. } => now.saturating_sub(*since) < CONNECTING_MS,
-            LinkState::Down | LinkState::Up(_) => false,
-        }
+        self.link.is_connecting(now)
     }
 
     pub(crate) fn on_readiness(&mut self, event: &Readiness)
-        ensures { self.new.engine ≡ self.old.engine }
+        ensures engine { self.new.engine ≡ self.old.engine }
+        ensures address { self.new.link ≡ self.old.link }
     {
-        if let LinkState::Connecting { has_event, .. } = &mut self.link {
-            *has_event = true;
-        }
+        self.link.on_readiness();
         if let Some(reader) = self.engine.reader_mut() {
             note_readable(reader, event);
         }
@@ -176,12 +130,11 @@ impl HostConnection {
         }
     }
 
-    /// Whether nothing is left to do unless further parts come: none was sent without a reply, and none waited when its last
-    /// round ended.
+    /// No part was sent without a reply, and none waited when the last round ended.
     pub(crate) fn is_at_rest(&self) -> bool {
         !self.has_more
             && !self.engine.awaits_reply()
-            && !matches!(self.link, LinkState::Connecting { .. })
+            && !matches!(self.link.state(), LinkState::Connecting { .. })
     }
 
     /// Whether a round can make progress, where no new parts wait.
@@ -190,7 +143,7 @@ impl HostConnection {
     }
 
     fn has_event(&self) -> bool {
-        match &self.link {
+        match self.link.state() {
             LinkState::Down => false,
             LinkState::Connecting { has_event, .. } => *has_event,
             LinkState::Up(_) => {
@@ -211,9 +164,10 @@ impl HostConnection {
         buffer: &mut Vec<u8>,
         round: HostRound<'_>,
     ) -> Result<HostStepped, StepError>
-        ensures { KeepsHost (ends_of self.old.engine) (ends_of self.new.engine)
-            (own_history T.pass T.seen turns.old.turns)
-            (own_history T.pass T.seen turns.new.turns) }
+        ensures keeps { KeepsHost (ends_of self.old.engine) (ends_of self.new.engine)
+            (own_history (T.facts turns.old.turns))
+            (own_history (T.facts turns.new.turns)) }
+        ensures address { self.new.link ≡ self.old.link }
     {
         self.has_more = false;
         self.looked = round.now;
@@ -236,7 +190,8 @@ impl HostConnection {
     }
 
     fn note_log_due(&mut self, now: u64) -> bool
-        ensures { self.new.engine ≡ self.old.engine }
+        ensures engine { self.new.engine ≡ self.old.engine }
+        ensures address { self.new.link ≡ self.old.link }
     {
         let is_due = match self.logged_at {
             None => true,
@@ -249,16 +204,18 @@ impl HostConnection {
     }
 
     fn lend_buffer(&mut self, buffer: &mut Vec<u8>)
-        ensures { self.new.engine ≡ self.old.engine }
+        ensures engine { self.new.engine ≡ self.old.engine }
+        ensures address { self.new.link ≡ self.old.link }
     {
         if let Some(writer) = self.engine.writer_mut() {
             writer.lend_buffer(buffer);
         }
     }
 
-    // Writes buffered bytes as far as the link's socket takes them. Once a write has failed reads fail too.
+    // Once a write has failed reads fail too.
     fn write_out(&mut self, buffer: &mut Vec<u8>)
-        ensures { self.new.engine ≡ self.old.engine }
+        ensures engine { self.new.engine ≡ self.old.engine }
+        ensures address { self.new.link ≡ self.old.link }
     {
         if let Some(writer) = self.engine.writer_mut() {
             writer.write_out(buffer);
@@ -276,23 +233,25 @@ impl HostConnection {
     }
 
     fn break_off_reads(&mut self)
-        ensures { self.new.engine ≡ self.old.engine }
+        ensures engine { self.new.engine ≡ self.old.engine }
+        ensures address { self.new.link ≡ self.old.link }
     {
         if let Some(reader) = self.engine.reader_mut() {
             reader.break_off();
         }
     }
 
-    // Steps until nothing more can be done, or `MAX_HOST_STEPS` are made. Unreachable: a connection attempt was refused.
+    // It stops after `MAX_HOST_STEPS`. Unreachable: a connection attempt was refused.
     fn step_engine<R: Wait + Net, T: HeldTurns>(
         &mut self,
         rt: &R,
         turns: &mut MeteredTurns<T>,
         round: HostRound<'_>,
     ) -> Result<HostStepped, StepError>
-        ensures { KeepsHost (ends_of self.old.engine) (ends_of self.new.engine)
-            (own_history T.pass T.seen turns.old.turns)
-            (own_history T.pass T.seen turns.new.turns) }
+        ensures keeps { KeepsHost (ends_of self.old.engine) (ends_of self.new.engine)
+            (own_history (T.facts turns.old.turns))
+            (own_history (T.facts turns.new.turns)) }
+        ensures address { self.new.link ≡ self.old.link }
     {
         let mut came_to = HostStepped::Done;
         for _ in 0..MAX_HOST_STEPS {
@@ -306,16 +265,17 @@ impl HostConnection {
         Ok(came_to)
     }
 
-    // Steps once. Where a link is needed it is made, or the waiting parts are given up.
+    // Where a link is needed it is made, or the waiting parts are given up.
     fn go_on<R: Wait + Net, T: HeldTurns>(
         &mut self,
         rt: &R,
         turns: &mut MeteredTurns<T>,
         round: HostRound<'_>,
     ) -> Result<HostMoved, StepError>
-        ensures { KeepsHost (ends_of self.old.engine) (ends_of self.new.engine)
-            (own_history T.pass T.seen turns.old.turns)
-            (own_history T.pass T.seen turns.new.turns) }
+        ensures keeps { KeepsHost (ends_of self.old.engine) (ends_of self.new.engine)
+            (own_history (T.facts turns.old.turns))
+            (own_history (T.facts turns.new.turns)) }
+        ensures address { self.new.link ≡ self.old.link }
     {
         match self.step(rt, turns, round)? {
             Progress::Moved => {
@@ -332,7 +292,8 @@ impl HostConnection {
             }
             Progress::Idle | Progress::Cut | Progress::Ended => {
                 self.refusals.succeeded();
-                self.abandon_connecting();
+                // (the parts of an attempt are gone, and the next one starts another)
+                self.link.abandon_connecting();
                 Ok(HostMoved::Waits)
             }
         }
@@ -346,25 +307,25 @@ impl HostConnection {
     ) -> Result<HostMoved, StepError>
         requires link { self.old.engine.link ≡ None }
         requires fault { self.old.engine.fault ≡ None }
-        ensures { KeepsHost (ends_of self.old.engine) (ends_of self.new.engine)
-            (own_history T.pass T.seen turns.old.turns)
-            (own_history T.pass T.seen turns.new.turns) }
+        ensures keeps { KeepsHost (ends_of self.old.engine) (ends_of self.new.engine)
+            (own_history (T.facts turns.old.turns))
+            (own_history (T.facts turns.new.turns)) }
+        ensures address { self.new.link ≡ self.old.link }
     {
-        match self.connect(rt, round) {
-            ConnectOutcome::Pending => Ok(HostMoved::Waits),
-            ConnectOutcome::Refused => {
-                self.refuse(rt, turns, round.now)?;
+        match self.link.connect(rt, round) {
+            Connected::Pending => Ok(HostMoved::Waits),
+            Connected::Refused => {
+                self.record_unreachable(rt, turns, round.now)?;
                 Ok(HostMoved::Refused)
             }
-            ConnectOutcome::Established => {
+            Connected::Established => {
                 self.attach()?;
                 Ok(HostMoved::On)
             }
         }
     }
 
-    // Sends all that waits, steps the engine once, and records what that says of the socket. A link that has to go is given up
-    // first.
+    // A link that has to go is given up first.
     fn step<R: Wait, T: HeldTurns>(
         &mut self,
         rt: &R,
@@ -374,8 +335,9 @@ impl HostConnection {
         ensures needs_link { IfOk result (λ p. p ≡ Progress.NeedsLink
             → (self.new.engine.link ≡ None) × (self.new.engine.fault ≡ None)) }
         ensures keeps { KeepsHost (ends_of self.old.engine) (ends_of self.new.engine)
-            (own_history T.pass T.seen turns.old.turns)
-            (own_history T.pass T.seen turns.new.turns) }
+            (own_history (T.facts turns.old.turns))
+            (own_history (T.facts turns.new.turns)) }
+        ensures address { self.new.link ≡ self.old.link }
     {
         self.give_up_if_due(rt, turns, round)?;
         let before = *turns.counts();
@@ -399,12 +361,15 @@ impl HostConnection {
         ensures needs_link { IfOk result (λ p. p ≡ Progress.NeedsLink
             → (self.new.engine.link ≡ None) × (self.new.engine.fault ≡ None)) }
         ensures keeps { KeepsHost (ends_of self.old.engine) (ends_of self.new.engine)
-            (own_history T.pass T.seen turns.old.turns)
-            (own_history T.pass T.seen turns.new.turns) }
+            (own_history (T.facts turns.old.turns))
+            (own_history (T.facts turns.new.turns)) }
+        ensures address { self.new.link ≡ self.old.link }
     {
         turns.hold();
         self.send_all(rt, turns, now)?;
-        turns.leave_if(self.may_read());
+        if self.may_read() {
+            turns.leave();
+        }
         self.engine.step(rt, turns, now)
     }
 
@@ -415,16 +380,17 @@ impl HostConnection {
         }
     }
 
-    // Sends until nothing more can be sent, or `MAX_HOST_STEPS` times.
+    // It stops after `MAX_HOST_STEPS` sends.
     fn send_all<R: Wait, T: HeldTurns>(
         &mut self,
         rt: &R,
         turns: &mut MeteredTurns<T>,
         now: u64,
     ) -> Result<(), EngineError>
-        ensures { KeepsHost (ends_of self.old.engine) (ends_of self.new.engine)
-            (own_history T.pass T.seen turns.old.turns)
-            (own_history T.pass T.seen turns.new.turns) }
+        ensures keeps { KeepsHost (ends_of self.old.engine) (ends_of self.new.engine)
+            (own_history (T.facts turns.old.turns))
+            (own_history (T.facts turns.new.turns)) }
+        ensures address { self.new.link ≡ self.old.link }
     {
         for _ in 0..MAX_HOST_STEPS {
             let Progress::Moved = self.engine.send(rt, turns, now)? else {
@@ -440,9 +406,10 @@ impl HostConnection {
         turns: &mut MeteredTurns<T>,
         round: HostRound<'_>,
     ) -> Result<(), StepError>
-        ensures { KeepsHost (ends_of self.old.engine) (ends_of self.new.engine)
-            (own_history T.pass T.seen turns.old.turns)
-            (own_history T.pass T.seen turns.new.turns) }
+        ensures keeps { KeepsHost (ends_of self.old.engine) (ends_of self.new.engine)
+            (own_history (T.facts turns.old.turns))
+            (own_history (T.facts turns.new.turns)) }
+        ensures address { self.new.link ≡ self.old.link }
     {
         if self.is_to_be_given_up(rt, turns, round) {
             self.give_up(rt, turns, round.now)
@@ -452,18 +419,19 @@ impl HostConnection {
     }
 
     fn note_step(&mut self, before: &TurnCounts, after: &TurnCounts)
-        ensures { self.new.engine ≡ self.old.engine }
+        ensures engine { self.new.engine ≡ self.old.engine }
+        ensures address { self.new.link ≡ self.old.link }
     {
         if after.matched != before.matched {
             self.note_reply();
         }
         if after.faults != before.faults {
-            self.abandon_connecting();
+            self.link.abandon_connecting();
         }
         self.drop_if_released();
     }
 
-    // Handles an error. A reply that doesn't fit the journal is given up with its link.
+    // A reply that doesn't fit the journal is given up with its link.
     fn handle_error<R: Wait, T: HeldTurns>(
         &mut self,
         rt: &R,
@@ -471,9 +439,10 @@ impl HostConnection {
         error: StepError,
         now: u64,
     ) -> Result<(), StepError>
-        ensures { KeepsHost (ends_of self.old.engine) (ends_of self.new.engine)
-            (own_history T.pass T.seen turns.old.turns)
-            (own_history T.pass T.seen turns.new.turns) }
+        ensures keeps { KeepsHost (ends_of self.old.engine) (ends_of self.new.engine)
+            (own_history (T.facts turns.old.turns))
+            (own_history (T.facts turns.new.turns)) }
+        ensures address { self.new.link ≡ self.old.link }
     {
         match error {
             StepError::EndsOne => Ok(()),
@@ -482,7 +451,7 @@ impl HostConnection {
         }
     }
 
-    // Whether the link has to go: waiting parts are given up, or the journal has no room for the reply that comes.
+    // The waiting parts are given up, or the journal has no room for the reply that comes.
     fn is_to_be_given_up<R: Wait, T: HeldTurns>(
         &mut self,
         rt: &R,
@@ -491,6 +460,7 @@ impl HostConnection {
     ) -> bool
         ensures engine { self.new.engine ≡ self.old.engine }
         ensures turns { turns.new.turns ≡ turns.old.turns }
+        ensures address { self.new.link ≡ self.old.link }
     {
         let count = self.read_count();
         let came = count.unwrap_or(0).saturating_sub(self.begun);
@@ -506,26 +476,28 @@ impl HostConnection {
     }
 
     fn note_reply(&mut self)
-        ensures { self.new.engine ≡ self.old.engine }
+        ensures engine { self.new.engine ≡ self.old.engine }
+        ensures address { self.new.link ≡ self.old.link }
     {
         if let Some(count) = self.read_count() {
             self.begun = count;
         }
     }
 
-    // Gives up the link and the waiting parts: each part is answered by name.
+    // Each waiting part is answered by name.
     fn give_up<R: Wait, T: HeldTurns>(
         &mut self,
         rt: &R,
         turns: &mut MeteredTurns<T>,
         now: u64,
     ) -> Result<(), StepError>
-        ensures { KeepsHost (ends_of self.old.engine) (ends_of self.new.engine)
-            (own_history T.pass T.seen turns.old.turns)
-            (own_history T.pass T.seen turns.new.turns) }
+        ensures keeps { KeepsHost (ends_of self.old.engine) (ends_of self.new.engine)
+            (own_history (T.facts turns.old.turns))
+            (own_history (T.facts turns.new.turns)) }
+        ensures address { self.new.link ≡ self.old.link }
     {
         let given_up = self.engine.give_up(rt, turns, now);
-        self.set_link(LinkState::Down);
+        self.link.cut();
         match given_up {
             Ok(()) => Ok(()),
             Err(error) => match StepError::from(error) {
@@ -535,83 +507,29 @@ impl HostConnection {
         }
     }
 
-    // Drops the stream once the engine has released the link.
     fn drop_if_released(&mut self)
-        ensures { self.new.engine ≡ self.old.engine }
+        ensures engine { self.new.engine ≡ self.old.engine }
+        ensures address { self.new.link ≡ self.old.link }
     {
-        if matches!(self.link, LinkState::Up(_)) && self.engine.reader().is_none() {
-            self.set_link(LinkState::Down);
+        if matches!(self.link.state(), LinkState::Up(_)) && self.engine.reader().is_none() {
+            self.link.cut();
         }
     }
 
-    // Drops a connection attempt once its parts are gone. The next part starts another one.
-    fn abandon_connecting(&mut self)
-        ensures { self.new.engine ≡ self.old.engine }
-    {
-        if matches!(self.link, LinkState::Connecting { .. }) {
-            self.set_link(LinkState::Down);
-        }
-    }
-
-    fn set_link(&mut self, link: LinkState)
-        ensures { self.new.engine ≡ self.old.engine }
-    {
-        drop(mem::replace(&mut self.link, link));
-    }
-
-    fn connect<R: Net>(&mut self, rt: &R, round: HostRound<'_>) -> ConnectOutcome
-        ensures { self.new.engine ≡ self.old.engine }
-    {
-        if let LinkState::Connecting {
-            stream,
-            since,
-            has_event,
-        } = &mut self.link
-        {
-            let overdue = round.now.saturating_sub(*since) >= self.reply_ms;
-            let found = look(stream, *has_event, overdue);
-            *has_event = false;
-            return found;
-        }
-        match TcpStream::connect(rt, self.address) {
-            Ok(stream) => self.begin_connecting(stream, round),
-            Err(_) => ConnectOutcome::Refused,
-        }
-    }
-
-    fn begin_connecting(&mut self, mut stream: TcpStream, round: HostRound<'_>) -> ConnectOutcome
-        ensures { self.new.engine ≡ self.old.engine }
-    {
-        let _ = stream.set_nodelay(true);
-        let interests = Interest::READABLE | Interest::WRITABLE;
-        if round
-            .registry
-            .register(&mut stream, self.token, interests)
-            .is_err()
-        {
-            return ConnectOutcome::Refused;
-        }
-        self.set_link(LinkState::Connecting {
-            stream,
-            since: round.now,
-            has_event: false,
-        });
-        ConnectOutcome::Pending
-    }
-
-    // Records with the engine that the host can't be reached: it answers the waiting parts.
-    fn refuse<R: Wait, T: HeldTurns>(
+    // The engine answers the waiting parts.
+    fn record_unreachable<R: Wait, T: HeldTurns>(
         &mut self,
         rt: &R,
         turns: &mut MeteredTurns<T>,
         now: u64,
     ) -> Result<(), StepError>
         requires { self.old.engine.link ≡ None }
-        ensures { KeepsHost (ends_of self.old.engine) (ends_of self.new.engine)
-            (own_history T.pass T.seen turns.old.turns)
-            (own_history T.pass T.seen turns.new.turns) }
+        ensures keeps { KeepsHost (ends_of self.old.engine) (ends_of self.new.engine)
+            (own_history (T.facts turns.old.turns))
+            (own_history (T.facts turns.new.turns)) }
+        ensures address { self.new.link ≡ self.old.link }
     {
-        self.set_link(LinkState::Down);
+        self.link.cut();
         match self.engine.refused(rt, turns, now) {
             Ok(()) => Ok(()),
             Err(error) => match StepError::from(error) {
@@ -624,24 +542,23 @@ impl HostConnection {
     fn attach(&mut self) -> Result<(), StepError>
         requires link { self.old.engine.link ≡ None }
         requires fault { self.old.engine.fault ≡ None }
-        ensures { (H : History)
+        ensures keeps { (H : History)
             → KeepsHost (ends_of self.old.engine) (ends_of self.new.engine) H H }
+        ensures address { self.new.link ≡ self.old.link }
     {
-        match mem::replace(&mut self.link, LinkState::Down) {
-            LinkState::Connecting { stream, .. } => self.attach_socket(stream),
-            other => {
-                self.set_link(other);
-                Ok(())
-            }
+        match self.link.take_connecting() {
+            Some(stream) => self.attach_socket(stream),
+            None => Ok(()),
         }
     }
 
-    // Makes this connected socket the link, and gives its two halves to the engine.
-    fn attach_socket(&mut self, stream: TcpStream) -> Result<(), StepError>
+    fn attach_socket(&mut self, stream: FreshStream) -> Result<(), StepError>
+        requires stream { stream ≡ Some self.old.link }
         requires link { self.old.engine.link ≡ None }
         requires fault { self.old.engine.fault ≡ None }
-        ensures { (H : History)
+        ensures keeps { (H : History)
             → KeepsHost (ends_of self.old.engine) (ends_of self.new.engine) H H }
+        ensures address { self.new.link ≡ self.old.link }
     {
         let Ok(
             Socket {
@@ -655,28 +572,11 @@ impl HostConnection {
         };
         match self.engine.attach(reader, writer) {
             Ok(()) => {
-                self.set_link(LinkState::Up(stream));
+                self.link.keep(stream);
                 self.begun = 0;
                 Ok(())
             }
             Err(_) => Err(StepError::Memory),
         }
-    }
-}
-
-fn look(stream: &TcpStream, has_event: bool, is_overdue: bool) -> ConnectOutcome {
-    if has_event {
-        match stream.take_error() {
-            Ok(None) => {}
-            Ok(Some(_)) | Err(_) => return ConnectOutcome::Refused,
-        }
-        if stream.peer_addr().is_ok() {
-            return ConnectOutcome::Established;
-        }
-    }
-    if is_overdue {
-        ConnectOutcome::Refused
-    } else {
-        ConnectOutcome::Pending
     }
 }

@@ -1,24 +1,26 @@
 //! The connections of one worker of `serve`: its clients and its hosts, each with its socket.
 //!
 //! Engines carry bytes to events and back; here they get sockets, readiness and the time. The clients and hosts of a
-//! worker are its [`WorkerConnections`], whose invariant is that each one's engine carries its socket's logs, over the
-//! steps that the worker's seat has made. What a round shares with other workers comes as a [`Round`].
+//! worker are its [`WorkerConnections`]. What a round shares with other workers comes as a [`Round`].
 //!
-//! It stands on `proxy_engines`, on `journal_room`, and on `proxy_history` and `journal_core`, whose steps its contracts name. It
-//! names no server and no generation. Begin with `WorkerConnections::step_client` in `worker_connections.rt`.
+//! It stands on `proxy_engines`, on `journal_room`, and on `proxy_history` and `journal_core`, whose steps its
+//! contracts name. It names no server and no generation. Begin with `WorkerConnections::step_client` in
+//! `worker_connections.rt`.
 #![tactic(auto)]
 
 mod client_connection;
 mod host_connection;
+mod host_link;
 mod laws;
 mod round;
 mod socket;
+mod stage;
 mod step_error;
 mod worker_connections;
 
 pub use client_connection::{CarriedSocket, Stepped};
 pub use host_connection::HostStepped;
-pub use laws::{assigned_hosts_have_one_pass, passes_share_no_host};
+pub use laws::{assigned_hosts_have_one_pass, hosts_have_their_workers, passes_share_no_host};
 pub use round::Round;
 pub use step_error::StepError;
 pub use worker_connections::{ClientResult, HOSTS, HostResult, Opened, WorkerConnections};

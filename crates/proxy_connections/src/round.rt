@@ -13,7 +13,7 @@ pub struct Round<'a> {
     pub notices: &'a Notices,
     /// Where sockets are registered for the worker's poll.
     pub registry: &'a Registry,
-    /// Its moment, in milliseconds.
+    /// The round's moment, in milliseconds.
     pub now: u64,
     /// The most parts that one client may queue in it.
     pub most_parts: u64,
@@ -23,4 +23,13 @@ pub struct Round<'a> {
     pub ends_inputs: bool,
     /// Whether sockets may go over to a newer generation.
     pub carries_over: bool,
+}
+
+/// A worker's round, as far as it is of one host.
+#[derive(Clone, Copy, Drop)]
+pub(crate) struct HostRound<'a> {
+    pub(crate) room: &'a JournalRoom,
+    pub(crate) registry: &'a Registry,
+    pub(crate) now: u64,
+    pub(crate) gives_up: bool,
 }

@@ -2,8 +2,10 @@
 ghost use Rattle.std.specs.Prelude.{◌≡◌, IfOk};
 ghost use Rattle.proxy_engines.specs.Keeps.{no_logs};
 ghost use Rattle.proxy_connections.specs.Sockets.{logs_of};
+ghost use Rattle.socket_halves.specs.SocketWriter.{passed_of};
 ghost use Rattle.socket_halves.specs.WriteBuffer.{accepted};
 
+use fresh_stream::{FreshStream, UsedStream};
 use mio::event::Event;
 use mio::net::TcpStream;
 use mio::unix::SourceFd;
@@ -12,41 +14,54 @@ use socket_halves::{SocketReader, SocketWriter};
 use std::alloc::{AllocError, Global};
 use std::io;
 use std::io::{Read, Write};
+use std::marker::Model;
 use std::net::Shutdown;
 use std::os::fd::AsRawFd;
 use std::sync::Arc;
 
-/// The reading half of a socket.
 pub(crate) type Reader = SocketReader<SharedStream>;
 
-/// The writing half of a socket.
 pub(crate) type Writer = SocketWriter<SharedStream>;
 
-/// A stream, which both halves of its socket and their owner hold.
+/// A stream, which both halves of its socket and their owner hold. Contracts see the address that it was to be connected to;
+/// an accepted one has none.
 #[derive(Drop)]
-pub(crate) struct SharedStream(Arc<TcpStream>);
+pub(crate) struct SharedStream {
+    stream: Arc<UsedStream>,
+}
+
+impl Model for SharedStream {
+    ghost use Rattle.std.specs.Prelude.{Option};
+    ghost use Rattle.std.specs.declared.net.socket_addr.SocketAddr.{SocketAddr};
+
+    ghost Value = { Option SocketAddr };
+
+    ghost view = { λ s. s.stream.value };
+}
 
 impl SharedStream {
-    fn new(alloc: Global, stream: TcpStream) -> Result<SharedStream, AllocError> {
-        match Arc::new(alloc, stream) {
-            Ok(stream) => Ok(SharedStream(stream)),
+    fn new(alloc: Global, stream: FreshStream) -> Result<SharedStream, AllocError>
+        ensures { IfOk result (λ s. s ≡ stream) }
+    {
+        match Arc::new(alloc, stream.into_used()) {
+            Ok(stream) => Ok(SharedStream { stream }),
             Err(_) => Err(AllocError),
         }
     }
 
-    // The same stream once more.
-    fn share(&self) -> Result<SharedStream, AllocError> {
-        match Arc::try_clone(&self.0) {
-            Ok(stream) => Ok(SharedStream(stream)),
+    fn share(&self) -> Result<SharedStream, AllocError>
+        ensures { IfOk result (λ s. s ≡ self.now) }
+    {
+        match Arc::try_clone(&self.stream) {
+            Ok(stream) => Ok(SharedStream { stream }),
             Err(_) => Err(AllocError),
         }
     }
 
     fn stream(&self) -> &TcpStream {
-        &self.0
+        self.stream.stream()
     }
 
-    /// Registers the stream with the poll under this token.
     pub(crate) fn register(&self, registry: &Registry, token: Token) -> io::Result<()> {
         let fd = self.stream().as_raw_fd();
         registry.register(
@@ -56,13 +71,11 @@ impl SharedStream {
         )
     }
 
-    /// Removes the stream from the poll.
     pub(crate) fn deregister(&self, registry: &Registry) {
         let fd = self.stream().as_raw_fd();
         let _ = registry.deregister(&mut SourceFd(&fd));
     }
 
-    /// Closes the sending half.
     pub(crate) fn shut_write(&self) {
         let _ = self.stream().shutdown(Shutdown::Write);
     }
@@ -86,7 +99,6 @@ impl Write for SharedStream {
     }
 }
 
-/// A new socket's two halves, and its stream.
 #[derive(Drop)]
 pub(crate) struct Socket {
     pub(crate) stream: SharedStream,
@@ -95,9 +107,10 @@ pub(crate) struct Socket {
 }
 
 impl Socket {
-    /// The socket of this stream, from which nothing was read or written.
-    pub(crate) fn new(alloc: Global, stream: TcpStream) -> Result<Socket, AllocError>
-        ensures { IfOk result (λ s. logs_of s.reader s.writer ≡ no_logs) }
+    /// Nothing was read or written.
+    pub(crate) fn new(alloc: Global, stream: FreshStream) -> Result<Socket, AllocError>
+        ensures logs { IfOk result (λ s. logs_of s.reader s.writer ≡ no_logs) }
+        ensures stream { IfOk result (λ s. s.stream ≡ stream) }
     {
         let stream = SharedStream::new(alloc, stream)?;
         let reader = SocketReader::new(stream.share()?);
@@ -110,7 +123,6 @@ impl Socket {
     }
 }
 
-/// What an event of the poll says of a reading half.
 pub(crate) fn note_readable(reader: &mut Reader, event: &Event)
     ensures logs { reader.new.end.delivered ≡ reader.old.end.delivered }
     ensures counts { reader.new.counts ≡ reader.old.counts }
@@ -123,9 +135,9 @@ pub(crate) fn note_readable(reader: &mut Reader, event: &Event)
     }
 }
 
-/// What an event of the poll says of a writing half.
 pub(crate) fn note_writable(writer: &mut Writer, event: &Event)
     ensures logs { accepted writer.new.output ≡ accepted writer.old.output }
+    ensures passed { passed_of writer.new.output ≡ passed_of writer.old.output }
     ensures counts { writer.new.counts ≡ writer.old.counts }
 {
     if event.is_writable() || event.is_write_closed() || event.is_error() {

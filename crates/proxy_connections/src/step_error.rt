@@ -1,10 +1,10 @@
-//! Why a step of a connection fails.
+ghost use Rattle.proxy_connections.specs.Stages.{TellsError};
 
 use engine_work::{Denied, EngineError};
 use proxy_core::Refusal;
 use proxy_exit_status::Ending;
 
-/// Why a step failed.
+/// Why a step of a connection failed.
 #[derive(Clone, Copy, Drop)]
 pub enum StepError {
     /// There was no memory; the step is made again.
@@ -25,7 +25,8 @@ impl StepError {
 }
 
 impl From<EngineError> for StepError {
-    /// The engine's error, as its worker treats it.
+    ghost from_gives = { λ error told. TellsError error told };
+
     fn from(error: EngineError) -> StepError {
         match error {
             EngineError::NoMemory | EngineError::TurnRefused(Denied::By(Refusal::NoMemory)) => {

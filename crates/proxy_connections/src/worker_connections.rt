@@ -1,18 +1,19 @@
 //! The clients and hosts of a worker, and the turns by which these are stepped.
-ghost use Rattle.std.specs.Prelude.{◌≡◌, ◌<◌, ◌+◌, [], IfOk, IfSome, OnOk, length, map};
+ghost use Rattle.std.specs.Prelude.{◌≡◌, ◌<◌, ◌+◌, [], IfNone, IfOk, IfSome, None, OnOk, length, map};
+ghost use Rattle.slab.specs.Slab.{get};
 ghost use Rattle.proxy_notices.specs.Places.{hosts_of};
-ghost use Rattle.proxy_connections.specs.WorkerConnections.{AddsClient, ChangesClient, ChangesHost, IsLast, IsLeaving, IsNewcomer, KeepsClients, MakesRoom, RemovesClient, RiseTo, ServesHosts, number_of, steps_of};
+ghost use Rattle.proxy_connections.specs.WorkerConnections.{AddsClient, ChangesClient, ChangesHost, IsNewcomer, KeepsClients, LetsGo, MakesRoom, MayCarry, MayClose, RemovesClient, RiseTo, ServesHosts, number_of, steps_of};
 
 use crate::client_connection::{
     CarriedSocket, ClientConnection, ClientRound, Lent, PollPlace, Stepped,
 };
-use crate::host_connection::{HostConnection, HostRound, HostStepped};
-use crate::round::Round;
+use crate::host_connection::{HostConnection, HostStepped};
+use crate::round::{HostRound, Round};
 use crate::step_error::StepError;
+use fresh_stream::FreshStream;
 use journal_budget::StepKind;
 use journal_room::{JournalRoom, MeteredTurns};
 use mio::event::Event;
-use mio::net::TcpStream;
 use mio::{Registry, Token};
 use proxy_config::Config;
 use proxy_exit_status::Ending;
@@ -43,7 +44,7 @@ pub enum Opened {
 /// What came of a client's round.
 #[derive(Clone, Copy, Drop)]
 pub struct ClientResult {
-    /// Its result.
+    /// What the round came to, or why it failed.
     pub stepped: Result<Stepped, StepError>,
     /// Whether its connection was closed in it, which is to be counted.
     pub has_closed: bool,
@@ -52,7 +53,7 @@ pub struct ClientResult {
 /// What came of a host's round.
 #[derive(Clone, Copy, Drop)]
 pub struct HostResult {
-    /// Its result.
+    /// What the round came to, or why it failed.
     pub stepped: Result<HostStepped, StepError>,
     /// The host's address.
     pub address: SocketAddr,
@@ -68,8 +69,8 @@ pub struct WorkerConnections<'a> {
     alloc: Global,
     turns: MeteredTurns<Seated<'a, TalliedCore>>,
     place: Place,
+    config: &'a Config,
     clients: Slab<ClientConnection>,
-    // Which of them the next round looks at.
     ready: ReadyClients,
     hosts: Vec<HostConnection>,
     // Bit h: parts came for host h since its last round.
@@ -83,6 +84,7 @@ impl Drop for WorkerConnections<'_> {
             alloc: _,
             turns: _,
             place: _,
+            config: _,
             clients: _,
             ready: _,
             hosts: _,
@@ -107,12 +109,14 @@ impl<'a> Model for WorkerConnections<'a> {
 
     ghost view = { λ c. record {
       place = c.place;
+      settings = c.config.now.hosts.items;
       clients = c.clients;
       hosts = c.hosts.items;
       steps = steps_of c.turns.turns;
     } };
 
-    ghost invariant = { λ c. IsServing c.place c.clients c.hosts.items (steps_of c.turns.turns) };
+    ghost invariant = { λ c. IsServing c.place c.config.now.hosts.items c.clients c.hosts.items
+        (steps_of c.turns.turns) };
 }
 
 impl<'a> WorkerConnections<'a> {
@@ -121,11 +125,12 @@ impl<'a> WorkerConnections<'a> {
     pub fn new(
         alloc: Global,
         place: Place,
-        config: &Config,
+        config: &'a Config,
         seat: Seated<'a, TalliedCore>,
     ) -> Result<WorkerConnections<'a>, Ending>
         requires { steps_of seat ≡ [] }
         ensures place { IfOk result (λ made. made.place ≡ place) }
+        ensures settings { IfOk result (λ made. made.settings ≡ config.now.hosts.items) }
         ensures hosts { 0 < place.workers → IfOk result (λ made.
             map number_of made.hosts ≡ hosts_of place (length config.now.hosts.items)) }
     {
@@ -134,6 +139,7 @@ impl<'a> WorkerConnections<'a> {
             alloc,
             turns: MeteredTurns::new(seat),
             place,
+            config,
             clients: Slab::new(alloc),
             ready: ReadyClients::new(alloc),
             hosts,
@@ -143,6 +149,13 @@ impl<'a> WorkerConnections<'a> {
                 durations: Histogram::new(),
             },
         })
+    }
+
+    /// The worker's place.
+    pub fn place(&self) -> Place
+        ensures { result ≡ self.now.place }
+    {
+        self.place
     }
 
     /// The clients' keys are below this number.
@@ -165,13 +178,15 @@ impl<'a> WorkerConnections<'a> {
         self.hosts.len()
     }
 
-    /// Whether a host's link is connecting.
+    /// Whether a host's link has been connecting for less than `CONNECTING_MS`.
     pub fn is_connecting(&self, now: u64) -> bool {
         is_any_connecting(&self.hosts, now)
     }
 
-    // The lent steps that it keeps: one for a fault of each of its links, because a fault must be recorded.
-    fn reserve(&self) -> u64 {
+    // One step for a fault of each link, because a fault must be recorded.
+    fn reserve(&self) -> u64
+        ensures { result ≡ length self.now.hosts }
+    {
         self.hosts.len() as u64
     }
 
@@ -228,8 +243,8 @@ impl<'a> WorkerConnections<'a> {
         self.ready.make_all_ready(self.clients.capacity());
     }
 
-    /// Takes what turns told of its clients and hosts: clients to which replies came are ready, and hosts for which parts
-    /// came are stepped in their next round.
+    /// Takes what turns told: clients to which replies came are ready, and hosts for which parts came are stepped in
+    /// their next round.
     pub fn hear(&mut self, notices: &Notices)
         ensures { self.new ≡ self.old }
     {
@@ -237,14 +252,13 @@ impl<'a> WorkerConnections<'a> {
         make_told_ready(&mut self.ready, notices, self.place.index);
     }
 
-    /// Has each host stepped in the next round, whether it was told of parts or not.
+    /// Has each host stepped in the next round, told of parts or not.
     pub fn stir_hosts(&mut self)
         ensures { self.new ≡ self.old }
     {
         self.stirred |= self.bits_of_hosts();
     }
 
-    // The bits of all its hosts.
     fn bits_of_hosts(&self) -> u64 {
         let mut bits = 0;
         for host in &self.hosts {
@@ -265,7 +279,7 @@ impl<'a> WorkerConnections<'a> {
         &mut self,
         rt: &R,
         round: Round<'_>,
-        stream: TcpStream,
+        stream: FreshStream,
     ) -> Result<Opened, StepError>
         ensures { AddsClient self.old self.new }
     {
@@ -298,10 +312,11 @@ impl<'a> WorkerConnections<'a> {
         }
     }
 
-    // Gives the client a slot: it has a connection from here on.
+    // The client has a connection from here on.
     fn insert(&mut self, round: Round<'_>, mut client: ClientConnection) -> Opened
         requires { IsNewcomer client.engine self.old.clients self.old.steps }
         ensures place { self.new.place ≡ self.old.place }
+        ensures settings { self.new.settings ≡ self.old.settings }
         ensures hosts { self.new.hosts ≡ self.old.hosts }
         ensures steps { self.new.steps ≡ self.old.steps }
         ensures stay { KeepsClients self.old.clients self.new.clients }
@@ -337,7 +352,8 @@ impl<'a> WorkerConnections<'a> {
         host.on_readiness(event);
     }
 
-    /// Takes in no further commands of the client with this key.
+    /// Takes in no further commands of the client with this key. Accepted ones are answered, then the connection ends;
+    /// its socket may go over.
     pub fn drain(&mut self, key: usize)
         ensures { ChangesClient key self.old self.new }
     {
@@ -348,7 +364,8 @@ impl<'a> WorkerConnections<'a> {
         self.ready.make_ready(key);
     }
 
-    /// Ends the input of the client with this key behind the bytes that have come.
+    /// Ends the input of the client with this key behind the bytes that have come. Those are answered, then the
+    /// connection is closed.
     pub fn end_input(&mut self, key: usize)
         ensures { ChangesClient key self.old self.new }
     {
@@ -369,7 +386,7 @@ impl<'a> WorkerConnections<'a> {
     ) -> Option<ClientResult>
         ensures changes { ChangesClient key self.old self.new }
         ensures leaves { IfSome result (λ r. IfOk r.stepped
-            (λ s. IsLast s → IsLeaving self.new.clients key)) }
+            (λ s. LetsGo s self.new.clients key)) }
     {
         let reserve = self.reserve();
         self.ready.begin(key);
@@ -419,9 +436,10 @@ impl<'a> WorkerConnections<'a> {
         })
     }
 
-    /// Drops a client that isn't served any more.
+    /// Drops a client whose sending half is closed: what its writer took has passed to the system, or a write failed or was
+    /// broken off.
     pub fn remove(&mut self, notices: &Notices, key: usize)
-        requires { IsLeaving self.old.clients key }
+        requires { MayClose self.old.clients key }
         ensures { RemovesClient key self.old self.new }
     {
         self.ready.forget(key);
@@ -431,11 +449,12 @@ impl<'a> WorkerConnections<'a> {
         }
     }
 
-    /// Takes the socket of a client that isn't served any more, with its unused input, for the newest generation.
-    /// `None`: its connection can't go on, and the socket is dropped; or there is no such client.
+    /// Takes the socket of a client whose connection is closed with all answered, with its unused input, for the newest
+    /// generation. `None`: there is no such client.
     pub fn carry(&mut self, round: Round<'_>, key: usize) -> Option<CarriedSocket>
-        requires { IsLeaving self.old.clients key }
-        ensures { RemovesClient key self.old self.new }
+        requires { MayCarry self.old.clients key }
+        ensures removes { RemovesClient key self.old self.new }
+        ensures none { IfNone result (get self.old.clients key ≡ None) }
     {
         self.ready.forget(key);
         match self.clients.try_remove(key) {
@@ -443,7 +462,7 @@ impl<'a> WorkerConnections<'a> {
                 round
                     .notices
                     .remove_client(client.conn(), self.place.index, key);
-                client.carry(round.registry, round.room)
+                Some(client.carry(round.registry, round.room))
             }
             None => None,
         }
@@ -451,18 +470,18 @@ impl<'a> WorkerConnections<'a> {
 
     /// Counts a refusal of memory to a client's socket that would go over. The client tries again, unless too many were
     /// refused in a row. `None`: there is no such client.
-    pub fn refuse(&mut self, key: usize) -> Option<StepError>
+    pub fn count_no_memory(&mut self, key: usize) -> Option<StepError>
         ensures { ChangesClient key self.old self.new }
     {
         let Some(client) = self.clients.get_mut(key) else {
             return None;
         };
         self.ready.make_ready(key);
-        Some(client.refuse())
+        Some(client.count_no_memory())
     }
 
-    /// Writes what the client's socket takes at once, and closes its sending half. True: its connection wasn't counted
-    /// as closed yet. `None`: there is no such client.
+    /// Writes what the client's socket takes at once, closes its sending half, and discards what has come. True: its
+    /// connection wasn't counted as closed yet. `None`: there is no such client.
     pub fn shut_down(&mut self, key: usize) -> Option<bool>
         ensures { ChangesClient key self.old self.new }
     {
@@ -483,7 +502,7 @@ impl<'a> WorkerConnections<'a> {
     }
 }
 
-// What a client needs of this round, where the worker keeps so many steps for its links.
+// The worker keeps `reserve` steps for its links.
 fn client_round(round: Round<'_>, reserve: u64) -> ClientRound<'_> {
     ClientRound {
         room: round.room,
@@ -494,7 +513,6 @@ fn client_round(round: Round<'_>, reserve: u64) -> ClientRound<'_> {
     }
 }
 
-// What a host needs of this round.
 fn host_round(round: Round<'_>) -> HostRound<'_> {
     HostRound {
         room: round.room,
@@ -504,7 +522,6 @@ fn host_round(round: Round<'_>) -> HostRound<'_> {
     }
 }
 
-// Whether one of these clients waits for replies, and all that was handed out to it is written.
 fn may_any_be_answered(clients: &Slab<ClientConnection>) -> bool {
     for key in 0..clients.capacity() {
         if let Some(client) = clients.get(key) {
@@ -516,7 +533,6 @@ fn may_any_be_answered(clients: &Slab<ClientConnection>) -> bool {
     false
 }
 
-// Makes the clients of a worker ready to which replies came.
 fn make_told_ready(ready: &mut ReadyClients, notices: &Notices, worker: usize) {
     if notices.take_all(worker) {
         ready.make_awaiting_ready();
@@ -529,7 +545,6 @@ fn make_told_ready(ready: &mut ReadyClients, notices: &Notices, worker: usize) {
     }
 }
 
-// Ends the input of a new client behind what has come, where it is to end.
 fn begin_input(client: &mut ClientConnection, ends_input: bool)
     ensures { client.new.engine ≡ client.old.engine }
 {
@@ -538,14 +553,13 @@ fn begin_input(client: &mut ClientConnection, ends_input: bool)
     }
 }
 
-// Whether a link of one of these hosts is connecting.
 fn is_any_connecting(hosts: &[HostConnection], now: u64) -> bool {
     hosts.iter().any(|host| host.is_connecting(now))
 }
 
-// The hosts of the worker at this place, each without a link.
 fn hosts_of(alloc: Global, place: Place, config: &Config) -> Result<Vec<HostConnection>, Ending>
-    ensures serves { IfOk result (λ hosts. ServesHosts place hosts.items []) }
+    ensures serves { IfOk result (λ hosts.
+        ServesHosts place config.now.hosts.items hosts.items []) }
     ensures all { 0 < place.workers → IfOk result (λ hosts.
         map number_of hosts.items ≡ hosts_of place (length config.now.hosts.items)) }
 {
@@ -559,7 +573,6 @@ fn hosts_of(alloc: Global, place: Place, config: &Config) -> Result<Vec<HostConn
     Ok(hosts)
 }
 
-// Adds the host of this number, without a link, if the worker at this place has it.
 fn push_host(
     hosts: &mut Vec<HostConnection>,
     alloc: Global,
@@ -569,8 +582,8 @@ fn push_host(
 ) -> Result<(), Ending>
     requires workers { 0 < place.workers }
     requires there { host < length config.now.hosts.items }
-    ensures { RiseTo place hosts.old.items host
-        → OnOk result (RiseTo place hosts.new.items (host + 1)) }
+    ensures { RiseTo place config.now.hosts.items hosts.old.items host
+        → OnOk result (RiseTo place config.now.hosts.items hosts.new.items (host + 1)) }
 {
     if !place.has(host) {
         return Ok(());

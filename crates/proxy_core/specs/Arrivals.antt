@@ -3,6 +3,7 @@ use Rattle.std.specs.Prelude.{◌≡◌, ◌<◌, ◌≤◌, ◌+◌, ◌^◌, �
 use Rattle.resp_core.specs.Tree.{Tree}
 use Rattle.ejector.specs.Ejection.{state}
 use Rattle.splitter.specs.declared.plans.Local.{Local}
+use Rattle.splitter.specs.declared.plans.PartPlan.{PartPlan}
 use Rattle.splitter.specs.Plan.{Plan, here, leave, parts, is_last}
 use Rattle.splitter.specs.Join.{MayJoin}
 use Rattle.journal_core.specs.Journal.{IsFull}
@@ -11,12 +12,12 @@ use Rattle.proxy_history.specs.Setting.{Setting, hosts, max_waiting}
 use Rattle.proxy_history.specs.History.{accepted_count}
 use Rattle.proxy_history.specs.Part.{Past}
 use Rattle.proxy_history.specs.Waiting.{waiting_parts}
-use Rattle.proxy_history.specs.Arrival.{placed_by}
+use Rattle.proxy_history.specs.Arrival.{parts_placed, placed_by}
 use Rattle.proxy_history.specs.Answer.{accepts, local_of}
 use Rattle.proxy_history.specs.declared.event.Event.{Event}
 use Rattle.proxy_history.specs.declared.answer.Answer.{Answer}
 use Rattle.proxy_history.specs.declared.answer.Answer.TheVariants as answer
-use Rattle.proxy_core.specs.Places.{count_at, is_without_host, is_too_many, value_of_placed}
+use Rattle.proxy_core.specs.Places.{AreCounted, count_at, placed_as, is_without_host, is_too_many, value_of_placed}
 use Rattle.proxy_core.specs.Pipelines.{PipelineState, PipelineTable, with_waiting, with_pipeline, pushed_parts, pipeline_at}
 use Rattle.proxy_core.specs.Connections.{with_connection, connection_with_command, arrived_command, connection_at, next_index}
 use Rattle.splitter.specs.declared.plans.Join.{Join}
@@ -34,6 +35,14 @@ pub record Tells (S : Setting) (m : Memory) (conn : ℕ) (x : Past) : Type 0 whe
   pub state_is : m.hosts ≡ state S.rules S.opening x.marks
   pub waiting_are : (h : ℕ) → h < hosts S → length (pipeline_at h m.pipelines).waiting ≡ length (waiting_parts h x)
   pub index_is : (k : Connection) → connection_at conn m.connections ≡ Some k → k.queue.popped + length k.queue.commands ≡ accepted_count conn x.steps
+
+-- The parts of a command's list are placed in their order, by what is kept, and for each host it is counted how many are to wait
+-- there.
+pub record ArePlaced (m : Machine) (list : List PartPlan) (counts : List ℕ) (ps : List Placed) : Type 0 where
+  pub placed : (x : Past) (conn command : ℕ) → Tells (setting_in m) (memory_in m) conn x
+      → ps ≡ map placed_as (parts_placed (setting_in m) x conn command [] list)
+  pub counted : AreCounted (memory_in m).pipelines counts ps
+  pub parts : length ps ≡ length list
 
 -- PUSHES
 

@@ -416,6 +416,13 @@ pub(crate) struct Done {
     pub bytes: u64,
 }
 
+/// Where a reply or a fault comes from: a host, in one of its epochs.
+#[derive(Clone, Copy)]
+pub(crate) struct HostEpoch {
+    pub host: usize,
+    pub epoch: u64,
+}
+
 impl Machine {
     #[inline(always)]
     fn turn(&mut self, pass: u64, event: Event) -> Result<Answer, Refused>
@@ -433,13 +440,13 @@ impl Machine {
                 epoch,
                 value,
                 t,
-            } => self.turn_answered(pass, host, epoch, value, t),
+            } => self.turn_answered(pass, HostEpoch { host, epoch }, value, t),
             Event::Failed {
                 host,
                 epoch,
                 kind,
                 t,
-            } => self.turn_failed(pass, host, epoch, kind, t),
+            } => self.turn_failed(pass, HostEpoch { host, epoch }, kind, t),
             Event::Swept { t } => self.turn_swept(pass, t),
             Event::Handed { conn } => self.turn_handed(pass, conn),
             Event::Closed { conn } => self.turn_closed(pass, conn),
@@ -449,7 +456,7 @@ impl Machine {
     // Adds an event's step, or returns the event with its refusal. Callers know the kind of the event, so little is
     // moved.
     #[inline(always)]
-    pub(crate) fn settle(
+    pub(crate) fn add_step(
         &mut self,
         pass: u64,
         event: Event,

@@ -61,15 +61,25 @@ IsRead old new buffer IoOutcome.End = TellsNone old new × IsAtEnd new.remaining
 IsRead old new buffer IoOutcome.Idle = TellsNone old new × WasIdle old.counts new.counts
 IsRead old new buffer IoOutcome.Failed = TellsNone old new × HasFailed old.counts new.counts
 
--- what clauses see of a writer: its bytes, as far as it tells; all that it took, the oldest first; its counts
+-- what of the bytes that a writer took has passed to what is behind it, the oldest first; and whether it failed, so that no more will
+pub record Passed : Type 0 where
+  pub bytes : List ℕ
+  pub has_failed : Bool
+
+-- all of these bytes have passed, and more will
+abbrev pub passed_all : List ℕ → Passed
+passed_all bytes = record { bytes = bytes; has_failed = false }
+
+-- what clauses see of a writer: its bytes, as far as it tells; all that it took, the oldest first; what of it has passed; its counts
 pub record WriteState : Type 0 where
   pub contents : Option (List ℕ)
   pub taken : List ℕ
+  pub passed : Passed
   pub counts : Counts
 
 -- a writer's state, by the functions of its type
-abbrev pub writer_state : {W : Type 0} → (W → Option (List ℕ)) → (W → List ℕ) → (W → Counts) → W → WriteState
-writer_state contents taken counts w = record { contents = contents w; taken = taken w; counts = counts w }
+abbrev pub writer_state : {W : Type 0} → (W → Option (List ℕ)) → (W → List ℕ) → (W → Passed) → (W → Counts) → W → WriteState
+writer_state contents taken passed counts w = record { contents = contents w; taken = taken w; passed = passed w; counts = counts w }
 
 -- the writer took the first n of these bytes, at least one
 pub record TakesBytes (old new : WriteState) (bytes : List ℕ) (n : ℕ) : Type 0 where

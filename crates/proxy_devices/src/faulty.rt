@@ -120,8 +120,8 @@ impl<S: WriteTally> Faulty<S> {
     pub fn write_passed(&mut self, bytes: &[u8]) -> IoOutcome
         requires some { bytes.now ≢ [] }
         ensures passes { 0 < self.old.left → IsWritten
-            (writer_state S.contents S.taken S.counts self.old.inner)
-            (writer_state S.contents S.taken S.counts self.new.inner)
+            (writer_state S.contents S.taken S.passed S.counts self.old.inner)
+            (writer_state S.contents S.taken S.passed S.counts self.new.inner)
             (take self.old.left bytes.now) result }
         ensures spent { self.old.left ≡ self.new.left + moved_count result }
         ensures kept { 0 < self.old.left → self.new.failures ≡ self.old.failures }
@@ -203,6 +203,8 @@ impl<S: ReadTally> ReadTally for Faulty<S> {
 
 impl<S: WriteTally> WriteTally for Faulty<S> {
     ghost taken = { λ f. S.taken f.inner };
+
+    ghost passed = { λ f. S.passed f.inner };
 
     fn write_told(&mut self, bytes: &[u8]) -> IoOutcome {
         self.write_passed(bytes)

@@ -2,7 +2,7 @@ ghost use Rattle.std.specs.Prelude.{◌≡◌, ◌≢◌, ◌<◌, [], ℕ, List
 ghost use Rattle.std.specs.Io.{ReadsAtMost, WritesAtMost};
 ghost use Rattle.std.specs.Io.KnownBytes.{Keeps, ReadConsumes, WriteAppends};
 ghost use Rattle.proxy_devices.specs.Tallied.{HasSameLogs, counts_of};
-ghost use Rattle.proxy_devices.specs.Device.{Counts, CountsRead, CountsWrite, IsRead, IsWritten, LogsCall, TakesNone, reader_state, writer_state};
+ghost use Rattle.proxy_devices.specs.Device.{Counts, CountsRead, CountsWrite, IsRead, IsWritten, LogsCall, Passed, TakesNone, passed_all, reader_state, writer_state};
 
 use crate::byte_log::ByteLog;
 use crate::counter::Counter;
@@ -53,16 +53,19 @@ pub trait WriteTally: Write + Tally {
     /// All bytes that it took, the oldest first; only proofs have them.
     ghost taken: { Self → List ℕ };
 
+    /// What of these has passed to what is behind it, and whether a write there failed; only proofs have it.
+    ghost passed: { Self → Passed };
+
     /// Writes once, at least one byte.
     fn write_told(&mut self, bytes: &[u8]) -> IoOutcome
         requires some { bytes.now ≢ [] }
-        ensures told { IsWritten (writer_state Self.contents taken Self.counts self.old)
-            (writer_state Self.contents taken Self.counts self.new) bytes.now result };
+        ensures told { IsWritten (writer_state Self.contents taken passed Self.counts self.old)
+            (writer_state Self.contents taken passed Self.counts self.new) bytes.now result };
 
     /// Flushes; not counted.
     fn flush_told(&mut self) -> io::Result<()>
-        ensures none { TakesNone (writer_state Self.contents taken Self.counts self.old)
-            (writer_state Self.contents taken Self.counts self.new) }
+        ensures none { TakesNone (writer_state Self.contents taken passed Self.counts self.old)
+            (writer_state Self.contents taken passed Self.counts self.new) }
         ensures counts { Self.counts self.new ≡ Self.counts self.old };
 }
 
@@ -190,6 +193,8 @@ impl<S: Read> ReadTally for Tallied<S> {
 
 impl<S: Write> WriteTally for Tallied<S> {
     ghost taken = { λ t. t.taken.bytes };
+
+    ghost passed = { λ t. passed_all t.taken.bytes };
 
     fn write_told(&mut self, bytes: &[u8]) -> IoOutcome {
         match self.inner.write(bytes) {

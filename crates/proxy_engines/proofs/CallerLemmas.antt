@@ -16,7 +16,7 @@ pub use Rattle.proxy_engines.proofs.SendLemmas.{request_send, rest_send}
 -- turns that an engine made or didn't, and others after them
 pub use Rattle.proxy_engines.proofs.OwnHistoryLemmas.{keeps_same, keeps_then}
 -- what an engine keeps of its socket's logs over any number of calls
-pub use Rattle.proxy_engines.proofs.KeepsLemmas.{KeepsSocket-same, KeepsSocket-then, KeepsSocket-told, KeepsSocket-drained, clients_keep_sockets}
+pub use Rattle.proxy_engines.proofs.KeepsLemmas.{KeepsSocket-same, KeepsSocket-then, KeepsSocket-told, KeepsSocket-drained, KeepsSocket-passes, clients_keep_sockets}
 pub use Rattle.proxy_engines.proofs.KeepsLemmas.{KeepsLink-same, KeepsLink-then, KeepsLink-sends, KeepsLink-steps, KeepsLink-records, hosts_keep_links}
 -- and what a socket's and a link's logs say of it
 pub use Rattle.proxy_engines.proofs.LogsLemmas.{hosts_carry_logs, sockets_carry_logs}

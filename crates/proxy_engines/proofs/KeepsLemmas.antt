@@ -1,5 +1,5 @@
 -- What an engine keeps of its socket's logs, over any number of calls.
-use Rattle.std.proofs.Common.{◌≡◌, ◌≢◌, ◌∙◌, ◌⊎◌, ℕ, Bool, List, [], ◌∷◌, ◌++◌, Option, Some, None, ap, append_assoc, append-nil, eq-eqb, inl, inr, refl, sym, true}
+use Rattle.std.proofs.Common.{◌≡◌, ◌≢◌, ◌∙◌, ◌⊎◌, false, ℕ, Bool, List, [], ◌∷◌, ◌++◌, Option, Some, None, ap, append_assoc, append-nil, eq-eqb, inl, inr, refl, sym, true}
 use Rattle.std.specs.Prelude.{Result}
 use Rattle.std.proofs.lemmas.List.Elements.{filter-append}
 use Rattle.proxy_history.specs.History.{History, Step}
@@ -18,6 +18,9 @@ use Rattle.proxy_engines.specs.Logs.{Logs, client_logs, link_logs, CarriesSocket
 use Rattle.proxy_engines.specs.Keeps.{KeepsLink, KeepsSocket, IsBetween, ClientsKeepSockets, HostsKeepLinks}
 use Rattle.proxy_engines.specs.declared.client.Progress.{Progress}
 use Rattle.engine_work.specs.declared.error.EngineError.{EngineError}
+use Rattle.std.specs.Io.KnownBytes.{Keeps}
+use Rattle.proxy_devices.specs.Device.{Passed}
+use Rattle.proxy_engines.proofs.FlushLemmas.{flushed_goes}
 use Rattle.proxy_engines.proofs.LogsLemmas.{hosts_carry_logs, sockets_carry_logs}
 
 -- CLIENTS
@@ -58,6 +61,16 @@ KeepsSocket-drained e H = record {
   alone = refl;
   carries = λ pasts begun k. sockets_carry_logs.drains pasts e H begun k;
 }
+
+keeps_known : (held : Option (List ℕ)) → Keeps held held
+keeps_known None = tt
+keeps_known (Some bytes) = refl
+
+-- where its writer passes on what it took, an engine keeps
+pub KeepsSocket-passes : (e : Client) (passed : Passed) (H : History) → KeepsSocket e (record e { outbox = record e.outbox { passed = passed } }) H H
+KeepsSocket-passes e passed H =
+    goes e (record e { outbox = record e.outbox { passed = passed } }) H H false
+    (flushed_goes e (record e.outbox { passed = passed }) H refl (keeps_known e.outbox.held) refl)
 
 -- a socket that an engine leaves is between two connections
 leaves : (pasts : List Past) (e : Client) (H : History) (rest : RestState) (begun : Logs)
@@ -117,6 +130,7 @@ clients_keep_sockets = record {
   then = KeepsSocket-then;
   moves = KeepsSocket-told;
   drains = KeepsSocket-drained;
+  passes = KeepsSocket-passes;
   leaves = leaves;
   opens = opens;
 }

@@ -9,7 +9,7 @@ use Rattle.proxy_core.specs.CoreTurns.{seen_of_connection}
 use Rattle.proxy_history.specs.declared.event.Event.{Event}
 use Rattle.proxy_history.specs.declared.answer.Answer.{Answer}
 use Rattle.proxy_history.proofs.CallerLemmas as history
-use Rattle.proxy_engines.specs.Turns.{KeepsTurns, own_steps}
+use Rattle.proxy_engines.specs.Turns.{CoreTurnFacts, KeepsTurns, own_steps}
 use Rattle.proxy_engines.proofs.HostMoves.{starts_then}
 use Rattle.journal_core.specs.Journal.{step_by}
 
@@ -46,15 +46,15 @@ connection_steps-own_steps c pass before between none =
 
 -- THE TURNS OF AN ENGINE
 
-module _ {Turns Setting : Type 0} (pass_of : Turns → ℕ) (setting_of : Turns → Setting) (seen_of : Turns → List Step) where
+module _ {Home Setting : Type 0} where
   -- no turn was made
-  pub keeps_same : (t : Turns) → KeepsTurns pass_of setting_of seen_of t t
-  keeps_same t = record { pass_is = refl; setting_is = refl; begins = ([], sym (append-nil (seen_of t))) }
+  pub keeps_same : (t : CoreTurnFacts Home Setting) → KeepsTurns t t
+  keeps_same t = record { pass_is = refl; setting_is = refl; begins = ([], sym (append-nil t.seen)) }
 
   -- some turns, and then others
-  pub keeps_then : (a b c : Turns) → KeepsTurns pass_of setting_of seen_of a b → KeepsTurns pass_of setting_of seen_of b c → KeepsTurns pass_of setting_of seen_of a c
+  pub keeps_then : (a b c : CoreTurnFacts Home Setting) → KeepsTurns a b → KeepsTurns b c → KeepsTurns a c
   keeps_then a b c first last = record {
     pass_is = last.pass_is ∙ first.pass_is;
     setting_is = last.setting_is ∙ first.setting_is;
-    begins = starts_then (seen_of a) (seen_of b) (seen_of c) first.begins last.begins;
+    begins = starts_then a.seen b.seen c.seen first.begins last.begins;
   }

@@ -8,7 +8,7 @@ use Rattle.proxy_history.specs.declared.event.Event.{Event}
 use Rattle.proxy_history.specs.declared.refusal.Refusal.{Refusal}
 use Rattle.journal_core.specs.Journal.{step_by}
 use Rattle.proxy_devices.specs.Device.{HasFailed, ReadState, WasIdle, WriteState}
-use Rattle.proxy_engines.specs.Turns.{KeepsTurns, own_history}
+use Rattle.proxy_engines.specs.Turns.{CoreTurnFacts, KeepsTurns, own_history}
 use Rattle.proxy_engines.specs.OneTurn.{IsDueError}
 use Rattle.proxy_engines.specs.Moves.{AsTold}
 use Rattle.proxy_engines.specs.Ends.{HasGivenAll, KeepsReader}
@@ -20,13 +20,13 @@ use Rattle.engine_work.specs.declared.error.EngineError.{EngineError}
 
 -- Some turns were made, or none, from `before` to `after`: the engine made moves, whether any as was told; where it answers
 -- neither device has failed, and where a turn was refused the error tells why.
-pub record MovesClient {Turns Setting Answered : Type 0} (pass_of : Turns → ℕ) (setting_of : Turns → Setting)
-    (seen_of : Turns → List Step) (cause : Setting → Refusal → Event → List Step → Type 0) (before after : Turns)
-    (old new : Client) (told : Option Bool) (result : Result Answered EngineError) : Type 0 where
-  pub turns : KeepsTurns pass_of setting_of seen_of before after
-  pub goes : AsTold (Goes old new (own_history pass_of seen_of before) (own_history pass_of seen_of after)) told
+pub record MovesClient {Home Setting Answered : Type 0} (cause : Setting → Refusal → Event → List Step → Type 0)
+    (before after : CoreTurnFacts Home Setting) (old new : Client) (told : Option Bool) (result : Result Answered EngineError)
+    : Type 0 where
+  pub turns : KeepsTurns before after
+  pub goes : AsTold (Goes old new (own_history before) (own_history after)) told
   pub unfailed : OnOk result (HasNoFault old new)
-  pub due : IfErr result (IsDueError (cause (setting_of before)) (seen_of after))
+  pub due : IfErr result (IsDueError (cause before.setting) after.seen)
 
 -- The engine is as it was, and the request that waits is held back: too many commands are unwritten.
 pub record StaysHeld (cause : Refusal → Event → List Step → Type 0) (seen : List Step) (old new : Client) : Type 0 where
@@ -139,6 +139,7 @@ pub record OpensClient (pass : ℕ) (before after : History) (reader : ReadState
   pub told_is : new.inbox.told ≡ reader.told
   pub held_is : new.outbox.held ≡ writer.contents
   pub taken_is : new.outbox.taken ≡ writer.taken
+  pub passed_is : new.outbox.passed ≡ writer.passed
   pub counts_are : (new.inbox.counts ≡ reader.counts) × (new.outbox.counts ≡ writer.counts)
   pub stage : new.stage ≡ Stage.Open
   pub reads : new.is_drained ≡ false

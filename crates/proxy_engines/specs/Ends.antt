@@ -10,14 +10,16 @@ use Rattle.limits.specs.declared.messages.TheConstants.{MAX_CLIENT_MEMBERS}
 use Rattle.splitter.specs.Request.{Request, read, broken, request_of}
 use Rattle.splitter.specs.declared.request.Request.{Request as Request'}
 use Rattle.splitter.specs.Requests.{end_of}
-use Rattle.proxy_devices.specs.Device.{Counts, HasFailed, WasIdle, is_moved}
+use Rattle.proxy_devices.specs.Device.{Counts, HasFailed, Passed, WasIdle, is_moved}
 use Rattle.proxy_devices.specs.declared.tally.IoOutcome.{IoOutcome}
 use Rattle.proxy_engines.specs.Moves.{has_moved}
 
--- a writer's contents, where they are known, its log, which is all that it took, its counts, and what is to be written next
+-- a writer's contents, where they are known, its log, which is all that it took, what of it has passed to what is behind the writer,
+-- its counts, and what is to be written next
 pub record OutboxState : Type 0 where
   pub held : Option (List ℕ)
   pub taken : List ℕ
+  pub passed : Passed
   pub counts : Counts
   pub pending : List ℕ
 

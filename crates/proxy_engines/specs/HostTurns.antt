@@ -5,7 +5,7 @@ use Rattle.proxy_history.specs.declared.event.Event.{Event}
 use Rattle.proxy_history.specs.declared.event.Kind.{Kind}
 use Rattle.proxy_history.specs.declared.refusal.Refusal.{Refusal}
 use Rattle.proxy_devices.specs.Device.{HasRisen}
-use Rattle.proxy_engines.specs.Turns.{KeepsTurns, own_history}
+use Rattle.proxy_engines.specs.Turns.{CoreTurnFacts, KeepsTurns, own_history}
 use Rattle.proxy_engines.specs.OneTurn.{HasHeld}
 use Rattle.proxy_engines.specs.Moves.{AsTold}
 use Rattle.proxy_engines.specs.Ends.{HasGivenAll}
@@ -16,45 +16,45 @@ use Rattle.proxy_engines.specs.declared.client.Progress.{Progress}
 use Rattle.engine_work.specs.EngineError.{IsTurnRefused}
 use Rattle.engine_work.specs.declared.error.EngineError.{EngineError}
 
-module _ {Turns Setting : Type 0} (pass_of : Turns → ℕ) (setting_of : Turns → Setting) (seen_of : Turns → List Step)
-    (cause : Setting → Refusal → Event → List Step → Type 0) (before after : Turns) where
+module _ {Home Setting : Type 0} (cause : Setting → Refusal → Event → List Step → Type 0)
+    (before after : CoreTurnFacts Home Setting) where
   -- Some turns were made, or none, from `before` to `after`. The outbox and its link made moves, whether any as was told; and an
   -- error tells of no device, and of a turn why it was refused.
   pub record MovesEnds {Answered : Type 0} (old new : HostEnds) (moment : ℕ) (told : Option Bool)
       (result : Result Answered EngineError) : Type 0 where
-    pub turns : KeepsTurns pass_of setting_of seen_of before after
+    pub turns : KeepsTurns before after
     pub goes : AsTold (GoesOn (record {
       old = old;
       new = new;
-      before = own_history pass_of seen_of before;
-      after = own_history pass_of seen_of after;
+      before = own_history before;
+      after = own_history after;
       moment = moment;
     })) told
-    pub plain : IfErr result (IsPlain (cause (setting_of before)) (seen_of after) new.outbox)
+    pub plain : IfErr result (IsPlain (cause before.setting) after.seen new.outbox)
 
   -- One fault of this kind is recorded, by one turn, and the link is given up, if there is one; or that turn was refused, the error
   -- tells why, and the outbox is as it was.
   pub record FailsOutbox {Answered : Type 0} (old new : HostOutboxState) (kind : Kind) (moment : ℕ)
       (result : Result Answered EngineError) : Type 0 where
-    pub turns : KeepsTurns pass_of setting_of seen_of before after
+    pub turns : KeepsTurns before after
     pub fails : OnOk result ((link : Option LinkState) → FailsHost (record {
       old = record { outbox = old; link = link };
       new = record { outbox = new; link = None };
-      before = own_history pass_of seen_of before;
-      after = own_history pass_of seen_of after;
+      before = own_history before;
+      after = own_history after;
       moment = moment;
     }) kind)
-    pub same : OnErr result ((new ≡ old) × (own_history pass_of seen_of after ≡ own_history pass_of seen_of before))
+    pub same : OnErr result ((new ≡ old) × (own_history after ≡ own_history before))
     pub err : IfErr result IsTurnRefused
-    pub due : IfErr result (IsDueErrorOn (cause (setting_of before)) (seen_of after) new)
+    pub due : IfErr result (IsDueErrorOn (cause before.setting) after.seen new)
 
   -- a call of the engine, over the turns from `before` to `after`
   abbrev pub call_of : HostState → HostState → ℕ → HostCall
   call_of old new moment = record {
     old = old;
     new = new;
-    before = own_history pass_of seen_of before;
-    after = own_history pass_of seen_of after;
+    before = own_history before;
+    after = own_history after;
     moment = moment;
   }
 
@@ -69,54 +69,54 @@ module _ {Turns Setting : Type 0} (pass_of : Turns → ℕ) (setting_of : Turns 
     pub in_time : IfOk result (λ _. ¬ IsLate new.outbox moment)
     pub needs_link : IfOk result (λ p. (p ≡ Progress.NeedsLink) ↔ ((new.link ≡ None) × (new.outbox.pending ≢ [])))
     pub idle : IfOk result (λ p. p ≡ Progress.Idle → IsIdleOn
-        (HasHeld (cause (setting_of before) Refusal.NothingWaiting) (Event.Taken old.outbox.host) (seen_of before) (seen_of after))
+        (HasHeld (cause before.setting Refusal.NothingWaiting) (Event.Taken old.outbox.host) before.seen after.seen)
         old.outbox old.link new.link)
 
   -- Some turns were made, or none, from `before` to `after`. The engine worked on its link or without one, as the answer tells, and
   -- where a turn was refused the error tells why.
   pub record MovesHost (old new : HostState) (moment : ℕ) (result : Result Progress EngineError) : Type 0 where
-    pub turns : KeepsTurns pass_of setting_of seen_of before after
-    pub works : WorksHost (IsUnasked (cause (setting_of before) Refusal.Unasked) (seen_of before) (seen_of after) moment)
+    pub turns : KeepsTurns before after
+    pub works : WorksHost (IsUnasked (cause before.setting Refusal.Unasked) before.seen after.seen moment)
         (call_of old new moment) result
-    pub due : IfErr result (IsDueErrorOn (cause (setting_of before)) (seen_of after) new.outbox)
+    pub due : IfErr result (IsDueErrorOn (cause before.setting) after.seen new.outbox)
     pub tells : TellsHost old new moment result
 
   -- A step over the turns from `before` to `after`: it does its work, or an earlier fault can't be recorded. Where a turn was
   -- refused the error tells why.
   pub record MakesStep (old new : HostState) (moment : ℕ) (result : Result Progress EngineError) : Type 0 where
-    pub turns : KeepsTurns pass_of setting_of seen_of before after
-    pub steps : StepsHost (IsUnasked (cause (setting_of before) Refusal.Unasked) (seen_of before) (seen_of after) moment)
+    pub turns : KeepsTurns before after
+    pub steps : StepsHost (IsUnasked (cause before.setting Refusal.Unasked) before.seen after.seen moment)
         (call_of old new moment) result
         ⊎ RestsHost (call_of old new moment) result
-    pub due : IfErr result (IsDueErrorOn (cause (setting_of before)) (seen_of after) new.outbox)
+    pub due : IfErr result (IsDueErrorOn (cause before.setting) after.seen new.outbox)
 
   -- Some turns were made, or none, from `before` to `after`: a fault of this kind is recorded, and the link given up; or that
   -- turn was refused, and the fault left to the next step.
   pub record RecordsFault {Answered : Type 0} (old new : HostState) (kind : Kind) (moment : ℕ)
       (result : Result Answered EngineError) : Type 0 where
-    pub turns : KeepsTurns pass_of setting_of seen_of before after
+    pub turns : KeepsTurns before after
     pub records : OnOk result (Records (call_of old new moment) kind)
     pub kept : OnErr result ((new ≡ record old { fault = Some kind })
-        × (own_history pass_of seen_of after ≡ own_history pass_of seen_of before))
+        × (own_history after ≡ own_history before))
     pub err : IfErr result IsTurnRefused
-    pub due : IfErr result (IsDueErrorOn (cause (setting_of before)) (seen_of after) new.outbox)
+    pub due : IfErr result (IsDueErrorOn (cause before.setting) after.seen new.outbox)
 
   -- Where no fault was to be recorded: the engine wrote on its link or took a part, if there is one, as the answer tells, and read
   -- nothing. It is idle where the writer paused, or where nothing was pending and no part waited.
   pub record SendsHost (old new : HostState) (moment : ℕ) (result : Result Progress EngineError) : Type 0 where
-    pub turns : KeepsTurns pass_of setting_of seen_of before after
-    pub works : WorksHost (IsUnasked (cause (setting_of before) Refusal.Unasked) (seen_of before) (seen_of after) moment)
+    pub turns : KeepsTurns before after
+    pub works : WorksHost (IsUnasked (cause before.setting Refusal.Unasked) before.seen after.seen moment)
         (call_of old new moment) result
     pub unread : OnOk result (IfSome old.link (λ j. IfSome new.link (λ k. (k.inbox ≡ j.inbox) × (k.next ≡ j.next))))
     pub idle : IfOk result (λ p. p ≡ Progress.Idle → IfSome old.link (λ j. IfSome new.link (λ k.
         HasRisen j.counts.paused k.counts.paused
-        ⊎ ((old.outbox.pending ≡ []) × cause (setting_of before) Refusal.NothingWaiting (Event.Taken old.outbox.host) (seen_of after)))))
-    pub due : IfErr result (IsDueErrorOn (cause (setting_of before)) (seen_of after) new.outbox)
+        ⊎ ((old.outbox.pending ≡ []) × cause before.setting Refusal.NothingWaiting (Event.Taken old.outbox.host) after.seen))))
+    pub due : IfErr result (IsDueErrorOn (cause before.setting) after.seen new.outbox)
 
   -- nothing was done, since a fault is to be recorded first
   abbrev pub RestsSending : HostState → HostState → Result Progress EngineError → Type 0
   RestsSending old new result = (new ≡ old) × (result ≡ Ok Progress.Idle)
-      × (own_history pass_of seen_of after ≡ own_history pass_of seen_of before)
+      × (own_history after ≡ own_history before)
 
 -- One part was taken, or none: there is no link, and no fault was recorded. Where none was, the outbox is as it was; and if nothing
 -- was pending no part waited.

@@ -3,6 +3,7 @@ use Rattle.std.specs.Prelude.{◌≡◌, ℕ, Bool, true, List, [], ◌∷◌, �
 use Rattle.proxy_history.specs.History.{History}
 use Rattle.proxy_history.specs.OwnSteps.{connection_steps, host_steps}
 use Rattle.proxy_history.specs.declared.event.Kind.{Kind}
+use Rattle.proxy_devices.specs.Device.{Passed}
 use Rattle.proxy_engines.specs.Client.{Client, Carries, Goes}
 use Rattle.proxy_engines.specs.Socket.{Past, IsLeft, IsRest, WentOn}
 use Rattle.proxy_engines.specs.Ends.{RestState}
@@ -47,13 +48,15 @@ IsBetween pasts rest begun now = Since begun now (LeavesRest pasts rest)
 
 -- LAWS
 
--- A client's engine keeps its socket over nothing, over what keeps it twice, over its moves and where it is drained. Where it leaves
--- a rest the socket is between two connections, and the engine that is opened with that rest goes on from it.
+-- A client's engine keeps its socket over nothing, over what keeps it twice, over its moves, where it is drained, and where its
+-- writer passes on what it took. Where it leaves a rest the socket is between two connections, and the engine that is opened with
+-- that rest goes on from it.
 pub record ClientsKeepSockets : Type 0 where
   pub same : (e : Client) (H : History) → KeepsSocket e e H H
   pub then : (a b c : Client) (x y z : History) → KeepsSocket a b x y → KeepsSocket b c y z → KeepsSocket a c x z
   pub moves : (old new : Client) (H H' : History) (told : Option Bool) → AsTold (Goes old new H H') told → KeepsSocket old new H H'
   pub drains : (e : Client) (H : History) → KeepsSocket e (record e { is_drained = true }) H H
+  pub passes : (e : Client) (passed : Passed) (H : History) → KeepsSocket e (record e { outbox = record e.outbox { passed = passed } }) H H
   pub leaves : (pasts : List Past) (e : Client) (H : History) (rest : RestState) (begun : Logs)
       → ((taken told : List ℕ) → Carries e H taken told → IsLeft e.conn H taken told rest)
       → CarriesSocketLogs pasts e H begun → IsBetween (record { conn = e.conn; steps = H } ∷ pasts) rest begun (client_logs e)

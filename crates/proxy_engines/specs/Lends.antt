@@ -23,7 +23,7 @@ with_reader inbox reader = record inbox { left = reader.remaining; told = reader
 
 -- an end with this writer
 abbrev pub with_writer : OutboxState → WriteState → OutboxState
-with_writer outbox writer = record outbox { held = writer.contents; taken = writer.taken; counts = writer.counts }
+with_writer outbox writer = record outbox { held = writer.contents; taken = writer.taken; passed = writer.passed; counts = writer.counts }
 
 -- a client's engine with this reader
 abbrev pub with_client_reader : Client → ReadState → Client
@@ -59,7 +59,7 @@ module _ (W : RattleType) (taken : WriteTallyGhosts W.Denot) (write : WriteGhost
   -- once the borrow r ends, the end's writer is the last one behind r
   abbrev pub lends_writer : MutBor OutboxState → MutBor W.Denot → Fml
   lends_writer s r =
-      Lends (outbox_row W taken write counts) W s r (λ w. with_writer s.now (writer_state write.contents taken.taken counts.counts w))
+      Lends (outbox_row W taken write counts) W s r (λ w. with_writer s.now (writer_state write.contents taken.taken taken.passed counts.counts w))
 
 module _ (R W : RattleType) (told : ReadTallyGhosts R.Denot) (read : ReadGhosts R.Denot) (counts : TallyGhosts R.Denot)
     (taken : WriteTallyGhosts W.Denot) (write : WriteGhosts W.Denot) (counts' : TallyGhosts W.Denot) where
@@ -71,7 +71,7 @@ module _ (R W : RattleType) (told : ReadTallyGhosts R.Denot) (read : ReadGhosts 
   -- the same of its writer
   abbrev pub lends_client_writer : MutBor Client → MutBor W.Denot → Fml
   lends_client_writer s r = Lends (client_row R W told read counts taken write counts') W s r
-      (λ w. with_client_writer s.now (writer_state write.contents taken.taken counts'.counts w))
+      (λ w. with_client_writer s.now (writer_state write.contents taken.taken taken.passed counts'.counts w))
 
   -- once the borrow r ends, the link's reader is the last one behind r
   abbrev pub lends_link_reader : MutBor LinkState → MutBor R.Denot → Fml
@@ -81,7 +81,7 @@ module _ (R W : RattleType) (told : ReadTallyGhosts R.Denot) (read : ReadGhosts 
   -- once the borrow r ends, the link's writer is the last one behind r
   abbrev pub lends_link_writer : MutBor LinkState → MutBor W.Denot → Fml
   lends_link_writer s r = Lends (link_row R W told read counts taken write counts') W s r
-      (λ w. with_link_writer s.now (writer_state write.contents taken.taken counts'.counts w))
+      (λ w. with_link_writer s.now (writer_state write.contents taken.taken taken.passed counts'.counts w))
 
   -- the same of a host's engine, where it has a link; else it stays as it is
   abbrev pub lends_host_reader : MutBor HostState → Option (MutBor R.Denot) → Fml
@@ -91,4 +91,4 @@ module _ (R W : RattleType) (told : ReadTallyGhosts R.Denot) (read : ReadGhosts 
   -- the same of its writer
   abbrev pub lends_host_writer : MutBor HostState → Option (MutBor W.Denot) → Fml
   lends_host_writer s r = LendsIf (host_row R W told read counts taken write counts') W s r
-      (λ w. with_link s.now (λ k. with_link_writer k (writer_state write.contents taken.taken counts'.counts w))) s.now
+      (λ w. with_link s.now (λ k. with_link_writer k (writer_state write.contents taken.taken taken.passed counts'.counts w))) s.now

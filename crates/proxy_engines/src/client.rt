@@ -127,9 +127,9 @@ impl<R: ReadTally, W: WriteTally> ClientEngine<R, W> {
     fn hand<Rt: Wait, T: CoreTurns>(&mut self, rt: &Rt, turns: &mut T) -> Result<bool, EngineError>
         requires live { IsLive self.old.stage }
         requires nothing { self.old.outbox.pending ≡ [] }
-        ensures moves { MovesClient T.pass T.setting T.seen T.cause turns.old turns.new
+        ensures moves { MovesClient T.cause (T.facts turns.old) (T.facts turns.new)
             self.old self.new (told_by_turn result) result }
-        ensures hands { HandsOne (T.cause (T.setting turns.old)) (T.seen turns.new)
+        ensures hands { HandsOne (T.cause (T.facts turns.old).setting) (T.facts turns.new).seen
             self.old self.new result }
     {
         match make_turn(rt, turns, Event::Handed { conn: self.conn }) {
@@ -151,12 +151,12 @@ impl<R: ReadTally, W: WriteTally> ClientEngine<R, W> {
         requires stage { self.old.stage ≡ Stage.Finishing }
         requires nothing { self.old.outbox.pending ≡ [] }
         requires handed { self.old.accepted ≡ self.old.handed }
-        ensures moves { MovesClient T.pass T.setting T.seen T.cause turns.old turns.new
+        ensures moves { MovesClient T.cause (T.facts turns.old) (T.facts turns.new)
             self.old self.new (told_by_step result) result }
         ensures ok { IfOk result (λ p. (p ≡ Progress.Ended)
             × (self.new ≡ record self.old { stage = Stage.Closed false })) }
-        ensures err { IfErr result (λ e. (self.new ≡ self.old) × (own_history T.pass T.seen
-            turns.new ≡ own_history T.pass T.seen turns.old)
+        ensures err { IfErr result (λ e. (self.new ≡ self.old)
+            × (own_history (T.facts turns.new) ≡ own_history (T.facts turns.old))
             × IsTurnRefused e) }
     {
         match make_turn(rt, turns, Event::Closed { conn: self.conn }) {
@@ -176,11 +176,11 @@ impl<R: ReadTally, W: WriteTally> ClientEngine<R, W> {
         turns: &mut T,
         answer: Result<Progress, EngineError>,
     ) -> Result<Progress, EngineError>
-        ensures turns { KeepsTurns T.pass T.setting T.seen turns.old turns.new }
-        ensures cuts { Cuts self.old self.new (own_history T.pass T.seen turns.old)
-            (own_history T.pass T.seen turns.new) answer result }
-        ensures due { (result ≡ answer)
-            ⊎ IfErr result (IsDueError (T.cause (T.setting turns.old)) (T.seen turns.new)) }
+        ensures turns { KeepsTurns (T.facts turns.old) (T.facts turns.new) }
+        ensures cuts { Cuts self.old self.new (own_history (T.facts turns.old))
+            (own_history (T.facts turns.new)) answer result }
+        ensures due { (result ≡ answer) ⊎ IfErr result
+            (IsDueError (T.cause (T.facts turns.old).setting) (T.facts turns.new).seen) }
     {
         self.stage = Stage::Failed;
         let close = Event::Closed { conn: self.conn };
@@ -200,12 +200,12 @@ impl<R: ReadTally, W: WriteTally> ClientEngine<R, W> {
         turns: &mut T,
     ) -> Result<Progress, EngineError>
         requires stage { self.old.stage ≡ Stage.AtEnd }
-        ensures moves { MovesClient T.pass T.setting T.seen T.cause turns.old turns.new
+        ensures moves { MovesClient T.cause (T.facts turns.old) (T.facts turns.new)
             self.old self.new (told_by_step result) result }
         ensures ok { IfOk result (λ p. (p ≡ Progress.Moved)
             × (self.new ≡ record self.old { stage = Stage.Finishing })) }
-        ensures err { IfErr result (λ e. (self.new ≡ self.old) × (own_history T.pass T.seen
-            turns.new ≡ own_history T.pass T.seen turns.old)
+        ensures err { IfErr result (λ e. (self.new ≡ self.old)
+            × (own_history (T.facts turns.new) ≡ own_history (T.facts turns.old))
             × IsTurnRefused e) }
     {
         match make_turn(rt, turns, Event::Finished { conn: self.conn }) {
@@ -227,9 +227,9 @@ impl<R: ReadTally, W: WriteTally> ClientEngine<R, W> {
         requires stage { self.old.stage ≡ Stage.Open }
         requires waits { self.old.next ≢ None }
         requires last { self.old.is_drained ≡ true → self.old.next ≡ Some Request.Broken }
-        ensures moves { MovesClient T.pass T.setting T.seen T.cause turns.old turns.new
+        ensures moves { MovesClient T.cause (T.facts turns.old) (T.facts turns.new)
             self.old self.new (told_by_step result) result }
-        ensures offers { OffersOne (T.cause (T.setting turns.old)) (T.seen turns.new)
+        ensures offers { OffersOne (T.cause (T.facts turns.old).setting) (T.facts turns.new).seen
             self.old self.new result }
     {
         let Some(request) = self.next.take() else {
@@ -288,7 +288,7 @@ impl<R: ReadTally, W: WriteTally> ClientEngine<R, W> {
     ) -> Result<Progress, EngineError>
         requires live { IsLive self.old.stage }
         requires some { self.old.outbox.pending ≢ [] }
-        ensures moves { MovesClient T.pass T.setting T.seen T.cause turns.old turns.new
+        ensures moves { MovesClient T.cause (T.facts turns.old) (T.facts turns.new)
             self.old self.new (told_by_step result) result }
         ensures writes { WritesClient self.old self.new result }
     {
@@ -311,7 +311,7 @@ impl<R: ReadTally, W: WriteTally> ClientEngine<R, W> {
     ) -> Result<Progress, EngineError>
         requires stage { self.old.stage ≡ Stage.Open }
         requires done { IsReadOut self.old }
-        ensures moves { MovesClient T.pass T.setting T.seen T.cause turns.old turns.new
+        ensures moves { MovesClient T.cause (T.facts turns.old) (T.facts turns.new)
             self.old self.new (told_by_step result) result }
         ensures stops { StopsReading self.new result }
     {
@@ -329,7 +329,7 @@ impl<R: ReadTally, W: WriteTally> ClientEngine<R, W> {
         requires none { self.old.next ≡ None }
         requires reads { self.old.is_drained ≡ false }
         requires all { HasGivenAll self.old.inbox }
-        ensures moves { MovesClient T.pass T.setting T.seen T.cause turns.old turns.new
+        ensures moves { MovesClient T.cause (T.facts turns.old) (T.facts turns.new)
             self.old self.new (told_by_step result) result }
         ensures reads { ReadsClient self.old self.new result }
     {
@@ -358,10 +358,10 @@ impl<R: ReadTally, W: WriteTally> ClientEngine<R, W> {
         turns: &mut T,
     ) -> Result<Progress, EngineError>
         requires stage { self.old.stage ≡ Stage.Open }
-        ensures moves { MovesClient T.pass T.setting T.seen T.cause turns.old turns.new
+        ensures moves { MovesClient T.cause (T.facts turns.old) (T.facts turns.new)
             self.old self.new (told_by_step result) result }
-        ensures takes { TakesIn (T.cause (T.setting turns.old)) (T.seen turns.old)
-            (T.seen turns.new) self.old self.new result }
+        ensures takes { TakesIn (T.cause (T.facts turns.old).setting) (T.facts turns.old).seen
+            (T.facts turns.new).seen self.old self.new result }
     {
         if self.is_to_stop() {
             return self.stop_reading(rt, turns);
@@ -388,7 +388,7 @@ impl<R: ReadTally, W: WriteTally> ClientEngine<R, W> {
     ) -> Result<Progress, EngineError>
         requires stage { self.old.stage ≡ Stage.Finishing }
         requires nothing { self.old.outbox.pending ≡ [] }
-        ensures moves { MovesClient T.pass T.setting T.seen T.cause turns.old turns.new
+        ensures moves { MovesClient T.cause (T.facts turns.old) (T.facts turns.new)
             self.old self.new (told_by_step result) result }
         ensures ends { EndsOnce self.new result }
     {
@@ -406,10 +406,10 @@ impl<R: ReadTally, W: WriteTally> ClientEngine<R, W> {
     ) -> Result<bool, EngineError>
         requires live { IsLive self.old.stage }
         requires nothing { self.old.outbox.pending ≡ [] }
-        ensures moves { MovesClient T.pass T.setting T.seen T.cause turns.old turns.new
+        ensures moves { MovesClient T.cause (T.facts turns.old) (T.facts turns.new)
             self.old self.new (told_by_turn result) result }
-        ensures hands { HandsDue (T.cause (T.setting turns.old)) (T.seen turns.old)
-            (T.seen turns.new) self.old self.new result }
+        ensures hands { HandsDue (T.cause (T.facts turns.old).setting) (T.facts turns.old).seen
+            (T.facts turns.new).seen self.old self.new result }
     {
         if self.accepted == self.handed {
             return Ok(false);
@@ -423,10 +423,10 @@ impl<R: ReadTally, W: WriteTally> ClientEngine<R, W> {
         turns: &mut T,
     ) -> Result<Progress, EngineError>
         requires live { IsLive self.old.stage }
-        ensures moves { MovesClient T.pass T.setting T.seen T.cause turns.old turns.new
+        ensures moves { MovesClient T.cause (T.facts turns.old) (T.facts turns.new)
             self.old self.new (told_by_step result) result }
-        ensures tells { TellsStep (T.cause (T.setting turns.old)) (T.seen turns.old)
-            (T.seen turns.new) self.old self.new result }
+        ensures tells { TellsStep (T.cause (T.facts turns.old).setting) (T.facts turns.old).seen
+            (T.facts turns.new).seen self.old self.new result }
         ensures cut { IfOk result (λ p. p ≢ Progress.Cut) }
     {
         if !self.outbox.is_empty() {
@@ -454,13 +454,13 @@ impl<R: ReadTally, W: WriteTally> ClientEngine<R, W> {
         rt: &Rt,
         turns: &mut T,
     ) -> Result<Progress, EngineError>
-        ensures moves { MovesClient T.pass T.setting T.seen T.cause turns.old turns.new
+        ensures moves { MovesClient T.cause (T.facts turns.old) (T.facts turns.new)
             self.old self.new (told_by_step result) result }
-        ensures tells { TellsStep (T.cause (T.setting turns.old)) (T.seen turns.old)
-            (T.seen turns.new) self.old self.new result }
+        ensures tells { TellsStep (T.cause (T.facts turns.old).setting) (T.facts turns.old).seen
+            (T.facts turns.new).seen self.old self.new result }
         ensures cut { IfOk result (λ p. p ≡ Progress.Cut → self.new.stage ≡ Stage.Closed true) }
         ensures closed { ClosesFirst self.old.stage self.old self.new
-            (own_history T.pass T.seen turns.old) (own_history T.pass T.seen turns.new) result }
+            (own_history (T.facts turns.old)) (own_history (T.facts turns.new)) result }
     {
         match self.stage {
             Stage::Closed { is_cut: true } => Ok(Progress::Cut),
@@ -480,10 +480,10 @@ impl<R: ReadTally, W: WriteTally> ClientEngine<R, W> {
         rt: &Rt,
         turns: &mut T,
     ) -> Result<Progress, EngineError>
-        ensures moves { MovesClient T.pass T.setting T.seen T.cause turns.old turns.new
+        ensures moves { MovesClient T.cause (T.facts turns.old) (T.facts turns.new)
             self.old self.new (told_by_step result) result }
-        ensures accepts { AcceptsOne (T.cause (T.setting turns.old)) (T.seen turns.old)
-            (T.seen turns.new) self.old self.new result }
+        ensures accepts { AcceptsOne (T.cause (T.facts turns.old).setting) (T.facts turns.old).seen
+            (T.facts turns.new).seen self.old self.new result }
     {
         if !self.may_accept() {
             return Ok(Progress::Idle);
@@ -534,7 +534,7 @@ impl<R: ReadTally, W: WriteTally> ClientEngine<R, W> {
     pub fn reader_mut(&mut self) -> &mut R
         ensures* writes_back { sem 𝓛 (lends_client_reader R.row W.row (record { told = R.told })
             (record { remaining = R.remaining }) (record { counts = R.counts })
-            (record { taken = W.taken }) (record { contents = W.contents })
+            (record { taken = W.taken; passed = W.passed }) (record { contents = W.contents })
             (record { counts = W.counts }) self.entry result) }
         ensures value { self.old ≡ with_client_reader self.old
             (reader_state R.remaining R.told R.counts result.now) }
@@ -545,7 +545,7 @@ impl<R: ReadTally, W: WriteTally> ClientEngine<R, W> {
     /// The writer.
     pub fn writer(&self) -> &W
         ensures { self.now ≡ with_client_writer self.now
-            (writer_state W.contents W.taken W.counts result.now) }
+            (writer_state W.contents W.taken W.passed W.counts result.now) }
     {
         self.outbox.writer()
     }
@@ -555,10 +555,10 @@ impl<R: ReadTally, W: WriteTally> ClientEngine<R, W> {
     pub fn writer_mut(&mut self) -> &mut W
         ensures* writes_back { sem 𝓛 (lends_client_writer R.row W.row (record { told = R.told })
             (record { remaining = R.remaining }) (record { counts = R.counts })
-            (record { taken = W.taken }) (record { contents = W.contents })
+            (record { taken = W.taken; passed = W.passed }) (record { contents = W.contents })
             (record { counts = W.counts }) self.entry result) }
         ensures value { self.old ≡ with_client_writer self.old
-            (writer_state W.contents W.taken W.counts result.now) }
+            (writer_state W.contents W.taken W.passed W.counts result.now) }
     {
         self.outbox.writer_mut()
     }
@@ -600,17 +600,17 @@ impl<R: ReadTally + Drop, W: WriteTally + Drop> ClientEngine<R, W> {
         reader: R,
         writer: W,
     ) -> Result<ClientEngine<R, W>, EngineError>
-        ensures turns { KeepsTurns T.pass T.setting T.seen turns.old turns.new }
-        ensures opened { IfOk result (λ e. OpensClient (T.pass turns.old)
-            (own_history T.pass T.seen turns.old) (own_history T.pass T.seen turns.new)
+        ensures turns { KeepsTurns (T.facts turns.old) (T.facts turns.new) }
+        ensures opened { IfOk result (λ e. OpensClient (T.facts turns.old).pass
+            (own_history (T.facts turns.old)) (own_history (T.facts turns.new))
             (reader_state R.remaining R.told R.counts reader)
-            (writer_state W.contents W.taken W.counts writer) e) }
-        ensures carries { IfOk result (λ e. Carries e (own_history T.pass T.seen turns.new) [] []) }
-        ensures err { IfErr result (λ e. (own_history T.pass T.seen turns.new ≡ own_history T.pass
-            T.seen turns.old) × ((e ≡ EngineError.NoMemory)
-            ⊎ IsTurnRefused e)) }
+            (writer_state W.contents W.taken W.passed W.counts writer) e) }
+        ensures carries { IfOk result (λ e. Carries e (own_history (T.facts turns.new)) [] []) }
+        ensures err { IfErr result
+            (λ e. (own_history (T.facts turns.new) ≡ own_history (T.facts turns.old))
+            × ((e ≡ EngineError.NoMemory) ⊎ IsTurnRefused e)) }
         ensures due { IfErr result
-            (IsDueError (T.cause (T.setting turns.old)) (T.seen turns.new)) }
+            (IsDueError (T.cause (T.facts turns.old).setting) (T.facts turns.new).seen) }
     {
         let inbox = match Inbox::new(alloc, reader, Limits::CLIENT) {
             Ok(inbox) => inbox,
@@ -651,17 +651,18 @@ impl<R: ReadTally + Drop, W: WriteTally + Drop> ClientEngine<R, W> {
         writer: W,
         rest: Rest,
     ) -> Result<ClientEngine<R, W>, (EngineError, R, W, Rest)>
-        ensures turns { KeepsTurns T.pass T.setting T.seen turns.old turns.new }
-        ensures opened { IfOk result (λ e. OpensClient (T.pass turns.old)
-            (own_history T.pass T.seen turns.old) (own_history T.pass T.seen turns.new)
+        ensures turns { KeepsTurns (T.facts turns.old) (T.facts turns.new) }
+        ensures opened { IfOk result (λ e. OpensClient (T.facts turns.old).pass
+            (own_history (T.facts turns.old)) (own_history (T.facts turns.new))
             (reader_state R.remaining R.told R.counts reader)
-            (writer_state W.contents W.taken W.counts writer) e) }
+            (writer_state W.contents W.taken W.passed W.counts writer) e) }
         ensures carries { IfOk result (λ e. (b : List ℕ) → IsRest rest b → Carries e
-            (own_history T.pass T.seen turns.new) [] b) }
-        ensures err { IfErr result (λ x. (own_history T.pass T.seen turns.new ≡ own_history T.pass
-            T.seen turns.old) × IsTurnRefused x.0) }
+            (own_history (T.facts turns.new)) [] b) }
+        ensures err { IfErr result
+            (λ x. (own_history (T.facts turns.new) ≡ own_history (T.facts turns.old))
+            × IsTurnRefused x.0) }
         ensures due { IfErr result
-            (λ x. IsDueError (T.cause (T.setting turns.old)) (T.seen turns.new) x.0) }
+            (λ x. IsDueError (T.cause (T.facts turns.old).setting) (T.facts turns.new).seen x.0) }
         ensures back { IfErr result (λ x. (x.1 ≡ reader) × (x.2 ≡ writer) × (x.3 ≡ rest)) }
     {
         match open(rt, turns) {
@@ -692,6 +693,7 @@ impl<R: ReadTally + Drop, W: WriteTally + Drop> ClientEngine<R, W> {
             × (W.contents o.1 ≡ self.outbox.held)) }
         ensures logs { IfSome result (λ o. (R.told o.0 ≡ self.inbox.told)
             × (W.taken o.1 ≡ self.outbox.taken)) }
+        ensures passed { IfSome result (λ o. W.passed o.1 ≡ self.outbox.passed) }
         ensures left { IfSome result (λ o. (H : History) (taken b : List ℕ) → Carries self H taken b
             → IsLeft self.conn H taken b o.2) }
     {
@@ -718,6 +720,7 @@ impl<R: ReadTally + Drop, W: WriteTally + Drop> ClientEngine<R, W> {
     pub fn into_writer(self) -> W
         ensures held { W.contents result ≡ self.outbox.held }
         ensures taken { W.taken result ≡ self.outbox.taken }
+        ensures passed { W.passed result ≡ self.outbox.passed }
     {
         let ClientEngine {
             inbox,

@@ -31,10 +31,10 @@ impl<Rt: Wait, T: CoreTurns, R: ReadTally, W: WriteTally> Work<Rt> for ClientWor
     ///
     /// Refused as the step was; after 1401 and 1404 another run continues at the same place.
     fn run(&mut self, rt: &Rt) -> Result<(), EngineError>
-        ensures turns { KeepsTurns T.pass T.setting T.seen self.old.turns self.new.turns }
+        ensures turns { KeepsTurns (T.facts self.old.turns) (T.facts self.new.turns) }
         ensures goes { AsTold (Goes self.old.engine self.new.engine
-            (own_history T.pass T.seen self.old.turns)
-            (own_history T.pass T.seen self.new.turns)) None }
+            (own_history (T.facts self.old.turns))
+            (own_history (T.facts self.new.turns))) None }
         ensures closed { OnOk result ((is_cut : Bool)
             × (self.new.engine.stage ≡ Stage.Closed is_cut)) }
         ensures failed { IfErr result (λ e. (e ≡ EngineError.ReadFailed)

@@ -131,7 +131,7 @@ impl<R: ReadTally + Drop, W: WriteTally + Drop> HostEngine<R, W> {
     pub fn reader_mut(&mut self) -> Option<&mut R>
         ensures* writes_back { sem 𝓛 (lends_host_reader R.row W.row (record { told = R.told })
             (record { remaining = R.remaining }) (record { counts = R.counts })
-            (record { taken = W.taken }) (record { contents = W.contents })
+            (record { taken = W.taken; passed = W.passed }) (record { contents = W.contents })
             (record { counts = W.counts }) self.entry result) }
         ensures there { IsSome result ↔ IsSome self.old.link }
         ensures value { IfSome result (λ r. self.old
@@ -149,7 +149,7 @@ impl<R: ReadTally + Drop, W: WriteTally + Drop> HostEngine<R, W> {
         ensures there { IsSome result ↔ IsSome self.now.link }
         ensures value { IfSome result (λ r. self.now
             ≡ with_link self.now (λ k. with_link_writer k
-            (writer_state W.contents W.taken W.counts r.now))) }
+            (writer_state W.contents W.taken W.passed W.counts r.now))) }
     {
         match &self.link {
             Some(link) => Some(link.writer()),
@@ -162,12 +162,12 @@ impl<R: ReadTally + Drop, W: WriteTally + Drop> HostEngine<R, W> {
     pub fn writer_mut(&mut self) -> Option<&mut W>
         ensures* writes_back { sem 𝓛 (lends_host_writer R.row W.row (record { told = R.told })
             (record { remaining = R.remaining }) (record { counts = R.counts })
-            (record { taken = W.taken }) (record { contents = W.contents })
+            (record { taken = W.taken; passed = W.passed }) (record { contents = W.contents })
             (record { counts = W.counts }) self.entry result) }
         ensures there { IsSome result ↔ IsSome self.old.link }
         ensures value { IfSome result (λ r. self.old
             ≡ with_link self.old (λ k. with_link_writer k
-            (writer_state W.contents W.taken W.counts r.now))) }
+            (writer_state W.contents W.taken W.passed W.counts r.now))) }
     {
         match &mut self.link {
             Some(link) => Some(link.writer_mut()),
@@ -183,7 +183,7 @@ impl<R: ReadTally + Drop, W: WriteTally + Drop> HostEngine<R, W> {
         kind: Kind,
         moment: u64,
     ) -> Result<(), EngineError>
-        ensures records { RecordsFault T.pass T.setting T.seen T.cause turns.old turns.new
+        ensures records { RecordsFault T.cause (T.facts turns.old) (T.facts turns.new)
             self.old self.new kind moment result }
     {
         self.fault = Some(kind);
@@ -228,7 +228,7 @@ impl<R: ReadTally + Drop, W: WriteTally + Drop> HostEngine<R, W> {
         moment: u64,
     ) -> Result<(), EngineError>
         requires none { self.old.link ≡ None }
-        ensures records { RecordsFault T.pass T.setting T.seen T.cause turns.old turns.new
+        ensures records { RecordsFault T.cause (T.facts turns.old) (T.facts turns.new)
             self.old self.new Kind.Refused moment result }
     {
         self.record_fault(rt, turns, Kind::Refused, moment)
@@ -244,7 +244,7 @@ impl<R: ReadTally + Drop, W: WriteTally + Drop> HostEngine<R, W> {
         turns: &mut T,
         moment: u64,
     ) -> Result<(), EngineError>
-        ensures records { RecordsFault T.pass T.setting T.seen T.cause turns.old turns.new
+        ensures records { RecordsFault T.cause (T.facts turns.old) (T.facts turns.new)
             self.old self.new (unwrap_or self.old.fault Kind.Dropped) moment result }
     {
         let kind = self.fault.unwrap_or(Kind::Dropped);
@@ -259,11 +259,11 @@ impl<R: ReadTally + Drop, W: WriteTally + Drop> HostEngine<R, W> {
         error: Option<EngineError>,
         moment: u64,
     ) -> Result<Progress, EngineError>
-        ensures turns { KeepsTurns T.pass T.setting T.seen turns.old turns.new }
-        ensures tells { TellsFault (call_of T.pass T.setting T.seen T.cause turns.old turns.new
+        ensures turns { KeepsTurns (T.facts turns.old) (T.facts turns.new) }
+        ensures tells { TellsFault (call_of T.cause (T.facts turns.old) (T.facts turns.new)
             self.old self.new moment) kind error result }
-        ensures due { (result ≡ answer_of error) ⊎ IfErr result
-            (IsDueErrorOn (T.cause (T.setting turns.old)) (T.seen turns.new) self.new.outbox) }
+        ensures due { (result ≡ answer_of error) ⊎ IfErr result (IsDueErrorOn
+            (T.cause (T.facts turns.old).setting) (T.facts turns.new).seen self.new.outbox) }
     {
         self.record_fault(rt, turns, kind, moment)?;
         match error {
@@ -280,7 +280,7 @@ impl<R: ReadTally + Drop, W: WriteTally + Drop> HostEngine<R, W> {
     ) -> Result<Progress, EngineError>
         requires some { self.old.link ≢ None }
         requires no_fault { self.old.fault ≡ None }
-        ensures moves { MovesHost T.pass T.setting T.seen T.cause turns.old turns.new
+        ensures moves { MovesHost T.cause (T.facts turns.old) (T.facts turns.new)
             self.old self.new moment result }
     {
         let Some(link) = &mut self.link else {
@@ -304,9 +304,9 @@ impl<R: ReadTally + Drop, W: WriteTally + Drop> HostEngine<R, W> {
         moment: u64,
     ) -> Result<bool, EngineError>
         requires none { self.old.link ≡ None }
-        ensures moves { MovesEnds T.pass T.setting T.seen T.cause turns.old turns.new
+        ensures moves { MovesEnds T.cause (T.facts turns.old) (T.facts turns.new)
             (ends_of self.old) (ends_of self.new) moment (told_by_turn result) result }
-        ensures takes { TakesOne (T.cause (T.setting turns.old)) (T.seen turns.new)
+        ensures takes { TakesOne (T.cause (T.facts turns.old).setting) (T.facts turns.new).seen
             self.old self.new result }
     {
         if self.outbox.is_empty() {
@@ -324,7 +324,7 @@ impl<R: ReadTally + Drop, W: WriteTally + Drop> HostEngine<R, W> {
     ) -> Result<Progress, EngineError>
         requires none { self.old.link ≡ None }
         requires no_fault { self.old.fault ≡ None }
-        ensures moves { MovesHost T.pass T.setting T.seen T.cause turns.old turns.new
+        ensures moves { MovesHost T.cause (T.facts turns.old) (T.facts turns.new)
             self.old self.new moment result }
         ensures link { self.new.link ≡ None }
     {
@@ -350,7 +350,7 @@ impl<R: ReadTally + Drop, W: WriteTally + Drop> HostEngine<R, W> {
         moment: u64,
     ) -> Result<Progress, EngineError>
         requires no_fault { self.old.fault ≡ None }
-        ensures moves { MovesHost T.pass T.setting T.seen T.cause turns.old turns.new
+        ensures moves { MovesHost T.cause (T.facts turns.old) (T.facts turns.new)
             self.old self.new moment result }
         ensures alone { self.old.link ≡ None → self.new.link ≡ None }
     {
@@ -368,7 +368,7 @@ impl<R: ReadTally + Drop, W: WriteTally + Drop> HostEngine<R, W> {
         moment: u64,
     ) -> Result<Progress, EngineError>
         requires no_fault { self.old.fault ≡ None }
-        ensures { SendsHost T.pass T.setting T.seen T.cause turns.old turns.new
+        ensures { SendsHost T.cause (T.facts turns.old) (T.facts turns.new)
             self.old self.new moment result }
     {
         let Some(link) = &mut self.link else {
@@ -397,10 +397,10 @@ impl<R: ReadTally + Drop, W: WriteTally + Drop> HostEngine<R, W> {
         turns: &mut T,
         moment: u64,
     ) -> Result<Progress, EngineError>
-        ensures sends { self.old.fault ≡ None → SendsHost T.pass T.setting T.seen T.cause
-            turns.old turns.new self.old self.new moment result }
-        ensures rests { self.old.fault ≢ None → RestsSending T.pass T.setting T.seen T.cause
-            turns.old turns.new self.old self.new result }
+        ensures sends { self.old.fault ≡ None → SendsHost T.cause
+            (T.facts turns.old) (T.facts turns.new) self.old self.new moment result }
+        ensures rests { self.old.fault ≢ None → RestsSending T.cause
+            (T.facts turns.old) (T.facts turns.new) self.old self.new result }
     {
         if self.fault.is_some() {
             return Ok(Progress::Idle);
@@ -423,9 +423,9 @@ impl<R: ReadTally + Drop, W: WriteTally + Drop> HostEngine<R, W> {
         turns: &mut T,
         moment: u64,
     ) -> Result<Progress, EngineError>
-        ensures makes { MakesStep T.pass T.setting T.seen T.cause turns.old turns.new
+        ensures makes { MakesStep T.cause (T.facts turns.old) (T.facts turns.new)
             self.old self.new moment result }
-        ensures tells { TellsHost T.pass T.setting T.seen T.cause turns.old turns.new
+        ensures tells { TellsHost T.cause (T.facts turns.old) (T.facts turns.new)
             self.old self.new moment result }
     {
         let Some(kind) = self.fault else {

@@ -84,13 +84,13 @@ impl HostOutbox {
         moment: u64,
     ) -> Result<bool, EngineError>
         requires nothing { self.old.pending ≡ [] }
-        ensures moves { (link : Option LinkState) → MovesEnds T.pass T.setting T.seen T.cause
-            turns.old turns.new (record { outbox = self.old; link = link })
+        ensures moves { (link : Option LinkState) → MovesEnds T.cause
+            (T.facts turns.old) (T.facts turns.new) (record { outbox = self.old; link = link })
             (record { outbox = self.new; link = link }) moment (told_by_turn result) result }
         ensures none { IfOk result (λ b. b ≡ false → self.new ≡ self.old) }
         ensures nothing_waits { IfOk result
-            (λ b. b ≡ false → T.cause (T.setting turns.old) Refusal.NothingWaiting
-            (Event.Taken self.old.host) (T.seen turns.new)) }
+            (λ b. b ≡ false → T.cause (T.facts turns.old).setting Refusal.NothingWaiting
+            (Event.Taken self.old.host) (T.facts turns.new).seen) }
     {
         if self.is_astray {
             return Err(EngineError::TurnRefused(Denied::Astray));
@@ -121,7 +121,7 @@ impl HostOutbox {
         kind: Kind,
         moment: u64,
     ) -> Result<(), EngineError>
-        ensures records { FailsOutbox T.pass T.setting T.seen T.cause turns.old turns.new
+        ensures records { FailsOutbox T.cause (T.facts turns.old) (T.facts turns.new)
             self.old self.new kind moment result }
     {
         if self.is_astray {

@@ -5,14 +5,12 @@ ghost use Rattle.resp_core.specs.Command.{command_of};
 ghost use Rattle.resp_core.specs.declared.error.RespError.{RespError};
 ghost use Rattle.splitter.specs.Request.{Request as Asked, IsNotSpelled, read, request_of};
 
+use limits::READ_SIZE;
 use proxy_devices::{IoOutcome, ReadTally};
 use resp_core::{Limits, Reader, RespError, SpelledCommand};
 use splitter::Request;
 use std::alloc::{AllocError, Global};
 use std::marker::Model;
-
-/// The most bytes of one read.
-pub const READ_SIZE: usize = 16_384;
 
 // The most bytes of a first read, and the least length of the buffer.
 const MIN_READ_SIZE: usize = 1_024;
@@ -51,7 +49,8 @@ pub struct Rest {
 impl Model for Rest {
     ghost use Rattle.std.specs.Prelude.{◌≡◌, ◌≤◌, None, take, length};
     ghost use Rattle.proxy_engines.specs.Ends.{RestState};
-    ghost use Rattle.proxy_engines.specs.declared.inbox.TheConstants.{READ_SIZE, MIN_READ_SIZE};
+    ghost use Rattle.limits.specs.declared.reads.TheConstants.{READ_SIZE};
+    ghost use Rattle.proxy_engines.specs.declared.inbox.TheConstants.{MIN_READ_SIZE};
 
     ghost Value = { RestState };
 
@@ -89,7 +88,8 @@ pub(crate) struct Inbox<R: ReadTally> {
 impl<R: ReadTally> Model for Inbox<R> {
     ghost use Rattle.std.specs.Prelude.{◌≡◌, ◌≤◌, true, take, length};
     ghost use Rattle.proxy_engines.specs.Ends.{InboxState, HasNothingToGive};
-    ghost use Rattle.proxy_engines.specs.declared.inbox.TheConstants.{READ_SIZE, MIN_READ_SIZE};
+    ghost use Rattle.limits.specs.declared.reads.TheConstants.{READ_SIZE};
+    ghost use Rattle.proxy_engines.specs.declared.inbox.TheConstants.{MIN_READ_SIZE};
 
     ghost Value = { InboxState };
 

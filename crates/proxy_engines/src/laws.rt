@@ -5,7 +5,7 @@ ghost use Rattle.proxy_engines.specs.Keeps.{ClientsKeepSockets, HostsKeepLinks};
 ghost use Rattle.proxy_engines.specs.Logs.{ClientsCarryLogs, HostsCarryLogs, SocketsCarryLogs};
 ghost use Rattle.proxy_engines.specs.Socket.{SocketAnswersInOrder, SocketAsksInOrder, SocketBegins, SocketEndsWhole, SocketGoesOver, SocketMoves, SocketStays};
 
-use crate::inbox::READ_SIZE;
+use limits::READ_SIZE;
 
 /// One read takes at most 16,384 bytes.
 pub fn reads_are_limited()

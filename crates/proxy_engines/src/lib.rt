@@ -21,10 +21,11 @@ pub use client::{ClientEngine, Progress, Stage};
 pub use client_work::ClientWork;
 pub use engine_work::{Denied, EngineError, Work, run_all};
 pub use host::HostEngine;
-pub use inbox::{READ_SIZE, Rest};
+pub use inbox::Rest;
 pub use laws::{
     accepted_are_first, clients_carry_logs, ended_is_whole, engines_keep_logs,
     engines_leave_others, hosts_carry_logs, others_leave_engines, reads_are_limited,
     sockets_carry_logs, sockets_go_on,
 };
+pub use limits::READ_SIZE;
 pub use proxy_devices::{Faulty, IoOutcome, ReadTally, Tallied, Tally, WriteTally};

@@ -107,7 +107,7 @@ impl<R: ReadTally, W: WriteTally> Link<R, W> {
     pub(crate) fn reader_mut(&mut self) -> &mut R
         ensures* writes_back { sem 𝓛 (lends_link_reader R.row W.row (record { told = R.told })
             (record { remaining = R.remaining }) (record { counts = R.counts })
-            (record { taken = W.taken }) (record { contents = W.contents })
+            (record { taken = W.taken; passed = W.passed }) (record { contents = W.contents })
             (record { counts = W.counts }) self.entry result) }
         ensures value { self.old ≡ with_link_reader self.old
             (reader_state R.remaining R.told R.counts result.now) }
@@ -117,7 +117,7 @@ impl<R: ReadTally, W: WriteTally> Link<R, W> {
 
     pub(crate) fn writer(&self) -> &W
         ensures { self.now ≡ with_link_writer self.now
-            (writer_state W.contents W.taken W.counts result.now) }
+            (writer_state W.contents W.taken W.passed W.counts result.now) }
     {
         &self.writer
     }
@@ -125,10 +125,10 @@ impl<R: ReadTally, W: WriteTally> Link<R, W> {
     pub(crate) fn writer_mut(&mut self) -> &mut W
         ensures* writes_back { sem 𝓛 (lends_link_writer R.row W.row (record { told = R.told })
             (record { remaining = R.remaining }) (record { counts = R.counts })
-            (record { taken = W.taken }) (record { contents = W.contents })
+            (record { taken = W.taken; passed = W.passed }) (record { contents = W.contents })
             (record { counts = W.counts }) self.entry result) }
         ensures value { self.old ≡ with_link_writer self.old
-            (writer_state W.contents W.taken W.counts result.now) }
+            (writer_state W.contents W.taken W.passed W.counts result.now) }
     {
         &mut self.writer
     }
@@ -203,12 +203,12 @@ impl<R: ReadTally, W: WriteTally> Link<R, W> {
         moment: u64,
     ) -> Result<Outcome, EngineError>
         requires waits { self.old.next ≢ None }
-        ensures moves { MovesEnds T.pass T.setting T.seen T.cause turns.old turns.new
+        ensures moves { MovesEnds T.cause (T.facts turns.old) (T.facts turns.new)
             (on_link outbox.old self.old) (on_link outbox.new self.new) moment
             (told_by_moves result) result }
         ensures answers { AnswersValue
-            (IsUnaskedNow (T.cause (T.setting turns.old) Refusal.Unasked) (T.seen turns.new)
-            moment outbox.new self.new)
+            (IsUnaskedNow (T.cause (T.facts turns.old).setting Refusal.Unasked)
+            (T.facts turns.new).seen moment outbox.new self.new)
             (record { old = self.old; new = self.new }) result }
     {
         let Some(value) = self.next.take() else {
@@ -259,12 +259,12 @@ impl<R: ReadTally, W: WriteTally> Link<R, W> {
         moment: u64,
     ) -> Result<Outcome, EngineError>
         requires whole { self.old.inbox.values.refusal ≡ None }
-        ensures moves { MovesEnds T.pass T.setting T.seen T.cause turns.old turns.new
+        ensures moves { MovesEnds T.cause (T.facts turns.old) (T.facts turns.new)
             (on_link outbox.old self.old) (on_link outbox.new self.new) moment
             (told_by_moves result) result }
         ensures answers { AnswersNext
-            (IsUnaskedNow (T.cause (T.setting turns.old) Refusal.Unasked) (T.seen turns.new)
-            moment outbox.new self.new)
+            (IsUnaskedNow (T.cause (T.facts turns.old).setting Refusal.Unasked)
+            (T.facts turns.new).seen moment outbox.new self.new)
             (record { old = self.old; new = self.new }) result }
     {
         match self.next_value()? {
@@ -285,12 +285,12 @@ impl<R: ReadTally, W: WriteTally> Link<R, W> {
         moment: u64,
     ) -> Result<Outcome, EngineError>
         requires whole { self.old.inbox.values.refusal ≡ None }
-        ensures moves { MovesEnds T.pass T.setting T.seen T.cause turns.old turns.new
+        ensures moves { MovesEnds T.cause (T.facts turns.old) (T.facts turns.new)
             (on_link outbox.old self.old) (on_link outbox.new self.new) moment
             (told_by_moves result) result }
         ensures answers { AnswersAll
-            (IsUnaskedNow (T.cause (T.setting turns.old) Refusal.Unasked) (T.seen turns.new)
-            moment outbox.new self.new)
+            (IsUnaskedNow (T.cause (T.facts turns.old).setting Refusal.Unasked)
+            (T.facts turns.new).seen moment outbox.new self.new)
             (record { old = self.old; new = self.new }) result }
     {
         let mut outcome = Outcome::Idle;
@@ -311,11 +311,11 @@ impl<R: ReadTally, W: WriteTally> Link<R, W> {
         turns: &mut T,
         moment: u64,
     ) -> Result<Outcome, EngineError>
-        ensures moves { MovesEnds T.pass T.setting T.seen T.cause turns.old turns.new
+        ensures moves { MovesEnds T.cause (T.facts turns.old) (T.facts turns.new)
             (on_link outbox.old self.old) (on_link outbox.new self.new) moment
             (told_by_moves result) result }
-        ensures sends { SendsOnLink ((outbox.old.pending ≡ []) × T.cause (T.setting turns.old)
-            Refusal.NothingWaiting (Event.Taken outbox.old.host) (T.seen turns.new))
+        ensures sends { SendsOnLink ((outbox.old.pending ≡ []) × T.cause (T.facts turns.old).setting
+            Refusal.NothingWaiting (Event.Taken outbox.old.host) (T.facts turns.new).seen)
             (record { old = self.old; new = self.new }) result }
     {
         if !outbox.is_empty() {
@@ -337,12 +337,12 @@ impl<R: ReadTally, W: WriteTally> Link<R, W> {
         moment: u64,
     ) -> Result<Outcome, EngineError>
         requires whole { self.old.inbox.values.refusal ≡ None }
-        ensures moves { MovesEnds T.pass T.setting T.seen T.cause turns.old turns.new
+        ensures moves { MovesEnds T.cause (T.facts turns.old) (T.facts turns.new)
             (on_link outbox.old self.old) (on_link outbox.new self.new) moment
             (told_by_moves result) result }
         ensures receives { Receives
-            (IsUnaskedNow (T.cause (T.setting turns.old) Refusal.Unasked) (T.seen turns.new)
-            moment outbox.new self.new)
+            (IsUnaskedNow (T.cause (T.facts turns.old).setting Refusal.Unasked)
+            (T.facts turns.new).seen moment outbox.new self.new)
             (record { old = self.old; new = self.new }) result }
     {
         let before = self.answer_all(outbox, rt, turns, moment)?;
@@ -368,15 +368,15 @@ impl<R: ReadTally, W: WriteTally> Link<R, W> {
         moment: u64,
     ) -> Result<Outcome, EngineError>
         requires whole { self.old.inbox.values.refusal ≡ None }
-        ensures moves { MovesEnds T.pass T.setting T.seen T.cause turns.old turns.new
+        ensures moves { MovesEnds T.cause (T.facts turns.old) (T.facts turns.new)
             (on_link outbox.old self.old) (on_link outbox.new self.new) moment
             (told_by_moves result) result }
         ensures works { WorksOnLink
-            (IsUnaskedNow (T.cause (T.setting turns.old) Refusal.Unasked) (T.seen turns.new)
-            moment outbox.new self.new)
+            (IsUnaskedNow (T.cause (T.facts turns.old).setting Refusal.Unasked)
+            (T.facts turns.new).seen moment outbox.new self.new)
             ((outbox.old.pending ≡ []) × HasHeld
-            (T.cause (T.setting turns.old) Refusal.NothingWaiting) (Event.Taken outbox.old.host)
-            (T.seen turns.old) (T.seen turns.new))
+            (T.cause (T.facts turns.old).setting Refusal.NothingWaiting)
+            (Event.Taken outbox.old.host) (T.facts turns.old).seen (T.facts turns.new).seen)
             outbox.new (record { old = self.old; new = self.new }) moment result }
     {
         let sent = self.send(outbox, rt, turns, moment)?;

@@ -39,15 +39,15 @@ pub(crate) fn offer_event<Rt: Wait, T: CoreTurns>(
     turns: &mut T,
     event: Event,
 ) -> Result<Answer, (Denied, Event)>
-    ensures turns { KeepsTurns T.pass T.setting T.seen turns.old turns.new }
-    ensures added { IfOk result (λ a. AddsTurn (T.legal (T.setting turns.old)) (T.pass turns.old)
-        (T.seen turns.old) event a (T.seen turns.new)) }
-    ensures answered { IfOk result (λ a. Adds (T.pass turns.old)
-        (own_history T.pass T.seen turns.old) (own_history T.pass T.seen turns.new) event a) }
+    ensures turns { KeepsTurns (T.facts turns.old) (T.facts turns.new) }
+    ensures added { IfOk result (λ a. AddsTurn (T.legal (T.facts turns.old).setting)
+        (T.facts turns.old).pass (T.facts turns.old).seen event a (T.facts turns.new).seen) }
+    ensures answered { IfOk result (λ a. Adds (T.facts turns.old).pass
+        (own_history (T.facts turns.old)) (own_history (T.facts turns.new)) event a) }
     ensures back { IfErr result (λ r. r.1 ≡ event) }
-    ensures denied { IfErr result (λ r. IsDenied (T.cause (T.setting turns.old)) event
-        (own_history T.pass T.seen turns.old)
-        (own_history T.pass T.seen turns.new) (T.seen turns.new) r.0) }
+    ensures denied { IfErr result (λ r. IsDenied (T.cause (T.facts turns.old).setting) event
+        (own_history (T.facts turns.old)) (own_history (T.facts turns.new))
+        (T.facts turns.new).seen r.0) }
 {
     match turns.turn(rt, event) {
         Ok(answer) => Ok(answer),
@@ -64,14 +64,14 @@ pub(crate) fn make_turn<Rt: Wait, T: CoreTurns>(
     turns: &mut T,
     event: Event,
 ) -> Result<Answer, Denied>
-    ensures turns { KeepsTurns T.pass T.setting T.seen turns.old turns.new }
-    ensures added { IfOk result (λ a. AddsTurn (T.legal (T.setting turns.old)) (T.pass turns.old)
-        (T.seen turns.old) event a (T.seen turns.new)) }
-    ensures answered { IfOk result (λ a. Adds (T.pass turns.old)
-        (own_history T.pass T.seen turns.old) (own_history T.pass T.seen turns.new) event a) }
-    ensures denied { IfErr result (λ r. IsDenied (T.cause (T.setting turns.old)) event
-        (own_history T.pass T.seen turns.old)
-        (own_history T.pass T.seen turns.new) (T.seen turns.new) r) }
+    ensures turns { KeepsTurns (T.facts turns.old) (T.facts turns.new) }
+    ensures added { IfOk result (λ a. AddsTurn (T.legal (T.facts turns.old).setting)
+        (T.facts turns.old).pass (T.facts turns.old).seen event a (T.facts turns.new).seen) }
+    ensures answered { IfOk result (λ a. Adds (T.facts turns.old).pass
+        (own_history (T.facts turns.old)) (own_history (T.facts turns.new)) event a) }
+    ensures denied { IfErr result (λ r. IsDenied (T.cause (T.facts turns.old).setting) event
+        (own_history (T.facts turns.old)) (own_history (T.facts turns.new))
+        (T.facts turns.new).seen r) }
 {
     match offer_event(rt, turns, event) {
         Ok(answer) => Ok(answer),
@@ -95,15 +95,15 @@ pub(crate) fn arrive<Rt: Wait, T: CoreTurns>(
     conn: u64,
     request: Request,
 ) -> Result<bool, (Denied, Request)>
-    ensures turns { KeepsTurns T.pass T.setting T.seen turns.old turns.new }
+    ensures turns { KeepsTurns (T.facts turns.old) (T.facts turns.new) }
     ensures answered { OnOk result
-        ((a : Answer) × Adds (T.pass turns.old) (own_history T.pass T.seen turns.old)
-        (own_history T.pass T.seen turns.new) (Event.Arrived conn request) a) }
+        ((a : Answer) × Adds (T.facts turns.old).pass (own_history (T.facts turns.old))
+        (own_history (T.facts turns.new)) (Event.Arrived conn request) a) }
     ensures last { IfOk result (λ last. last ≡ is_last (plan_for request)) }
     ensures back { IfErr result (λ r. r.1 ≡ request) }
-    ensures denied { IfErr result (λ r. IsDenied (T.cause (T.setting turns.old))
-        (Event.Arrived conn request) (own_history T.pass T.seen turns.old)
-        (own_history T.pass T.seen turns.new) (T.seen turns.new) r.0) }
+    ensures denied { IfErr result (λ r. IsDenied (T.cause (T.facts turns.old).setting)
+        (Event.Arrived conn request) (own_history (T.facts turns.old))
+        (own_history (T.facts turns.new)) (T.facts turns.new).seen r.0) }
 {
     match offer_event(rt, turns, Event::Arrived { conn, request }) {
         Ok(Answer::Accepted { local, .. }) => Ok(is_last_answer(local)),
@@ -115,13 +115,13 @@ pub(crate) fn arrive<Rt: Wait, T: CoreTurns>(
 
 /// Returns the connection's number, which is in no earlier step.
 pub(crate) fn open<Rt: Wait, T: CoreTurns>(rt: &Rt, turns: &mut T) -> Result<u64, Denied>
-    ensures turns { KeepsTurns T.pass T.setting T.seen turns.old turns.new }
-    ensures answered { IfOk result (λ c. own_history T.pass T.seen turns.new ≡ step_by
-        (T.pass turns.old) Event.Opened (Answer.Opened c) ∷ own_history T.pass T.seen turns.old) }
-    ensures new { IfOk result (λ c. connection_steps c (own_history T.pass T.seen turns.old) ≡ []) }
-    ensures denied { IfErr result (λ r. IsDenied (T.cause (T.setting turns.old)) Event.Opened
-        (own_history T.pass T.seen turns.old)
-        (own_history T.pass T.seen turns.new) (T.seen turns.new) r) }
+    ensures turns { KeepsTurns (T.facts turns.old) (T.facts turns.new) }
+    ensures answered { IfOk result (λ c. own_history (T.facts turns.new) ≡ step_by
+        (T.facts turns.old).pass Event.Opened (Answer.Opened c) ∷ own_history (T.facts turns.old)) }
+    ensures new { IfOk result (λ c. connection_steps c (own_history (T.facts turns.old)) ≡ []) }
+    ensures denied { IfErr result (λ r. IsDenied (T.cause (T.facts turns.old).setting) Event.Opened
+        (own_history (T.facts turns.old)) (own_history (T.facts turns.new))
+        (T.facts turns.new).seen r) }
 {
     match make_turn(rt, turns, Event::Opened) {
         Ok(Answer::Opened { conn }) => Ok(conn),
@@ -139,14 +139,14 @@ pub(crate) fn give<Rt: Wait, T: CoreTurns>(
     value: Value,
     moment: u64,
 ) -> Result<(), (Denied, Value)>
-    ensures turns { KeepsTurns T.pass T.setting T.seen turns.old turns.new }
-    ensures answered { OnOk result ((a : Answer) × Adds (T.pass turns.old)
-        (own_history T.pass T.seen turns.old) (own_history T.pass T.seen turns.new)
+    ensures turns { KeepsTurns (T.facts turns.old) (T.facts turns.new) }
+    ensures answered { OnOk result ((a : Answer) × Adds (T.facts turns.old).pass
+        (own_history (T.facts turns.old)) (own_history (T.facts turns.new))
         (Event.Answered host epoch value moment) a) }
     ensures back { IfErr result (λ r. r.1 ≡ value) }
-    ensures denied { IfErr result (λ r. IsDenied (T.cause (T.setting turns.old))
-        (Event.Answered host epoch value moment) (own_history T.pass T.seen turns.old)
-        (own_history T.pass T.seen turns.new) (T.seen turns.new) r.0) }
+    ensures denied { IfErr result (λ r. IsDenied (T.cause (T.facts turns.old).setting)
+        (Event.Answered host epoch value moment) (own_history (T.facts turns.old))
+        (own_history (T.facts turns.new)) (T.facts turns.new).seen r.0) }
 {
     let event = Event::Answered {
         host,

@@ -23,6 +23,7 @@ impl<W: WriteTally> Model for Outbox<W> {
     ghost view = { λ o. record {
       held = W.contents o.writer;
       taken = W.taken o.writer;
+      passed = W.passed o.writer;
       counts = W.counts o.writer;
       pending = o.pending;
     } };
@@ -35,6 +36,7 @@ impl<W: WriteTally> Outbox<W> {
     pub(crate) fn new(writer: W) -> Outbox<W>
         ensures held { result.held ≡ W.contents writer }
         ensures taken { result.taken ≡ W.taken writer }
+        ensures passed { result.passed ≡ W.passed writer }
         ensures counts { result.counts ≡ W.counts writer }
         ensures pending { result.pending ≡ [] }
     {
@@ -81,16 +83,16 @@ impl<W: WriteTally> Outbox<W> {
 
     pub(crate) fn writer(&self) -> &W
         ensures { self.now ≡ with_writer self.now
-            (writer_state W.contents W.taken W.counts result.now) }
+            (writer_state W.contents W.taken W.passed W.counts result.now) }
     {
         &self.writer
     }
 
     pub(crate) fn writer_mut(&mut self) -> &mut W
-        ensures* writes_back { sem 𝓛 (lends_writer W.row (record { taken = W.taken })
+        ensures* writes_back { sem 𝓛 (lends_writer W.row (record { taken = W.taken; passed = W.passed })
             (record { contents = W.contents }) (record { counts = W.counts }) self.entry result) }
         ensures value { self.old ≡ with_writer self.old
-            (writer_state W.contents W.taken W.counts result.now) }
+            (writer_state W.contents W.taken W.passed W.counts result.now) }
     {
         &mut self.writer
     }
@@ -99,6 +101,7 @@ impl<W: WriteTally> Outbox<W> {
     pub(crate) fn into_writer(self) -> W
         ensures held { W.contents result ≡ self.held }
         ensures taken { W.taken result ≡ self.taken }
+        ensures passed { W.passed result ≡ self.passed }
     {
         let Outbox { writer, pending: _ } = self;
         writer

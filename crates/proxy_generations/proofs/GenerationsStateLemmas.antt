@@ -1,5 +1,5 @@
 -- How calls keep what `Generations` knows.
-use Rattle.std.proofs.Common.{◌≡◌, ◌⊎◌, ◌↔◌, ◌<◌, ◌≤◌, ◌+◌, ◌-◌, ◌^◌, ◌==◌, ◌++◌, ℕ, Bool, true, false, not, Option, Some, None, unwrap_or, option_to_list, is_some, IfSome, IsNone, List, [], ◌∷◌, length, map, filter, Contains, All, inl, inr, refl, sym, ap, arith}
+use Rattle.std.proofs.Common.{◌≡◌, ◌⊎◌, ◌↔◌, ◌<◌, ◌≤◌, ◌+◌, ◌-◌, ◌^◌, ◌==◌, ◌++◌, ℕ, Bool, true, false, not, Option, Some, None, unwrap_or, option_to_list, is_some, IfSome, IsNone, List, [], ◌∷◌, length, map, filter, Contains, All, inl, inr, refl, sym, ap, subst, arith}
 use Rattle.std.proofs.lemmas.Bool.{eq-eqb, ne_eqb, cases_eq, cases_Bool}
 use Rattle.std.proofs.lemmas.List.{length-map, map-append}
 use Rattle.std.proofs.lemmas.List.Elements.{All-head, All-tail, All-map, All-contains, All-contains_itself}
@@ -17,11 +17,30 @@ use Rattle.proxy_generations.proofs.HistoryLemmas.{IsOrdered, ordered}
 use Rattle.proxy_generations.proofs.OlderLemmas.{first_none, first_in}
 use Rattle.proxy_generations.proofs.ConnectionLemmas.{connected, connects, apart, not_gone, gone}
 use Rattle.std.specs.Option.{SomeIff}
-use Rattle.proxy_generations.specs.Phase.{IsPhase}
-use Rattle.proxy_generations.specs.declared.lifecycle.Phase.TheVariants.{Serving, Draining, GivingUp, Stopped}
+use Rattle.proxy_generations.specs.Phase.{IsPhase, IsAbove, IsTask}
+use Rattle.proxy_generations.specs.declared.phase.Phase.{Phase}
+use Rattle.proxy_generations.specs.declared.phase.Phase.TheVariants.{Unopened, Serving, Draining, GivingUp, Stopped}
 
 same_kept : (a b : Open) → Some a ≡ Some b → a ≡ b
 same_kept a b e = cc
+
+-- the newest one isn't above itself, nor is one below it
+newest_is_not_above : (o : Option ℕ) (n : ℕ) → o ≡ Some n → IsAbove o n → ⊥
+newest_is_not_above None n e above = absurd cc
+newest_is_not_above (Some m) n e above = let is : m ≡ n = cc in omega arith
+
+pub below_it : (o : Option ℕ) (m n : ℕ) → o ≡ Some m → n < m → IsAbove o n → ⊥
+below_it None m n e less above = absurd cc
+below_it (Some k) m n e less above = let is : k ≡ m = cc in omega arith
+
+-- one is above the newest where there is none, or where it is neither that nor below it
+pub above_it : (o : Option ℕ) (n : ℕ) → ((m : ℕ) → o ≡ Some m → m < n) → IsAbove o n
+above_it None n less = tt
+above_it (Some m) n less = less m refl
+
+-- an empty list contains nothing
+in_none : (n : ℕ) → Contains [] n → ⊥
+in_none n (k, less, e) = absurd (omega arith)
 
 -- what `is_none` says
 pub none_from : (o : Option Open) (b : Bool) → is_some o ≡ not b → b ≡ true → o ≡ None
@@ -402,9 +421,26 @@ module _ {H : Type 0} where
       → IsNumber m.newest n ↔ (newest es ≡ Some n)
   number_newest m s es n st = number_is es (newest es) m.newest n st.newest_is
 
+  -- neither the newest one nor one that drains is above the newest
+  below_newest : (es : List (Event H)) → IsHistory es → (n : ℕ) → Contains (draining es) n → (o : Option ℕ) → newest es ≡ o
+      → IsAbove o n → ⊥
+  below_newest es h n c None e above = let none = (ordered es h).first e in in_none n (subst (λ ns. Contains ns n) none c)
+  below_newest es h n c (Some m) e above =
+      let less : n < m = All-contains (λ k. k < m) (draining es) n ((ordered es h).older m e) c in omega arith
+
+  -- one without a task doesn't drain
+  pub no_task : (es : List (Event H)) (n : ℕ) (task : Option Phase) → ((phase : Phase) → task ≡ Some phase → ⊥) → IsTask task es n
+      → Contains (draining es) n → ⊥
+  no_task es n None never is = is
+  no_task es n (Some phase) never is = absurd (never phase refl)
+
+  pub not_above : (es : List (Event H)) → IsHistory es → (n : ℕ) → Contains (draining es) n → IsAbove (newest es) n → ⊥
+  not_above es h n c above = below_newest es h n c (newest es) refl above
+
   -- what the newest one is to do
   pub serves : (es : List (Event H)) → IsHistory es → (n : ℕ) → newest es ≡ Some n → IsPhase Serving es n
   serves es h n e = record {
+    awaits = (λ x. absurd cc, λ above. absurd (newest_is_not_above (newest es) n e above));
     serves = (λ x. e, λ x. refl);
     drains = (λ x. absurd cc, λ x. absurd (apart es h n e x.0));
     gives_up = (λ x. absurd cc, λ x. absurd (apart es h n e (first_in (draining es) n x.0.0)));
@@ -412,25 +448,43 @@ module _ {H : Type 0} where
       λ x. absurd cc,
       λ x. elim x [
         | inl way ↦ absurd (apart es h n e (first_in (draining es) n way.0))
-        | inr none ↦ absurd (not_gone es h n (inl e) none)
+        | inr over ↦ absurd (not_gone es h n (inl e) over.1)
       ],
     );
   }
 
-  -- what one is to do that is neither
-  pub is_gone : (es : List (Event H)) → IsHistory es → (n : ℕ) → (newest es ≡ Some n → ⊥) → (Contains (draining es) n → ⊥)
-      → IsPhase Stopped es n
-  is_gone es h n not_newest not_draining = record {
+  -- what one is to do that hasn't opened
+  pub awaits : (es : List (Event H)) → IsHistory es → (n : ℕ) → IsAbove (newest es) n → IsPhase Unopened es n
+  awaits es h n above = record {
+    awaits = (λ x. above, λ x. refl);
+    serves = (λ x. absurd cc, λ e. absurd (newest_is_not_above (newest es) n e above));
+    drains = (λ x. absurd cc, λ x. absurd (not_above es h n x.0 above));
+    gives_up = (λ x. absurd cc, λ x. absurd (not_above es h n (first_in (draining es) n x.0.0) above));
+    stops = (
+      λ x. absurd cc,
+      λ x. elim x [
+        | inl way ↦ absurd (not_above es h n (first_in (draining es) n way.0) above)
+        | inr over ↦ absurd (over.0 above)
+      ],
+    );
+  }
+
+  -- and what one is to do that is over
+  pub is_over : (es : List (Event H)) → IsHistory es → (n : ℕ) → (newest es ≡ Some n → ⊥) → (Contains (draining es) n → ⊥)
+      → (IsAbove (newest es) n → ⊥) → IsPhase Stopped es n
+  is_over es h n not_newest not_draining below = record {
+    awaits = (λ x. absurd cc, λ above. absurd (below above));
     serves = (λ x. absurd cc, λ e. absurd (not_newest e));
     drains = (λ x. absurd cc, λ x. absurd (not_draining x.0));
     gives_up = (λ x. absurd cc, λ x. absurd (not_draining (first_in (draining es) n x.0.0)));
-    stops = (λ x. inr (gone es h n not_newest not_draining), λ x. refl);
+    stops = (λ x. inr (below, gone es h n not_newest not_draining), λ x. refl);
   }
 
   -- what one that drains is to do where it isn't in the way
   pub aside : (es : List (Event H)) → IsHistory es → (n : ℕ) → Contains (draining es) n → (in_the_way es ≡ Some n → ⊥)
       → IsPhase Draining es n
   aside es h n c not_way = record {
+    awaits = (λ x. absurd cc, λ above. absurd (not_above es h n c above));
     serves = (λ x. absurd cc, λ f. absurd (apart es h n f c));
     drains = (λ x. (c, λ way. absurd (not_way way)), λ x. refl);
     gives_up = (λ x. absurd cc, λ x. absurd (not_way x.0.0));
@@ -438,7 +492,7 @@ module _ {H : Type 0} where
       λ x. absurd cc,
       λ x. elim x [
         | inl way ↦ absurd (not_way way.0)
-        | inr none ↦ absurd (not_gone es h n (inr c) none)
+        | inr over ↦ absurd (not_gone es h n (inr c) over.1)
       ],
     );
   }
@@ -447,6 +501,7 @@ module _ {H : Type 0} where
   pub is_in_the_way : (es : List (Event H)) → IsHistory es → (n : ℕ) → in_the_way es ≡ Some n → is_asked es ≡ true
       → IsPhase Stopped es n
   is_in_the_way es h n e asked = record {
+    awaits = (λ x. absurd cc, λ above. absurd (not_above es h n (first_in (draining es) n e) above));
     serves = (λ x. absurd cc, λ f. absurd (apart es h n f (first_in (draining es) n e)));
     drains = (λ x. absurd cc, λ x. absurd (let other = (x.1 e).0 in cc));
     gives_up = (λ x. absurd cc, λ x. absurd (let other = x.0.1 in cc));
@@ -457,6 +512,7 @@ module _ {H : Type 0} where
   pub gives_up : (es : List (Event H)) → IsHistory es → (n : ℕ) → in_the_way es ≡ Some n → is_asked es ≡ false → IsSome (near_since es)
       → IsPhase GivingUp es n
   gives_up es h n e unasked near = record {
+    awaits = (λ x. absurd cc, λ above. absurd (not_above es h n (first_in (draining es) n e) above));
     serves = (λ x. absurd cc, λ f. absurd (apart es h n f (first_in (draining es) n e)));
     drains = (λ x. absurd cc, λ x. absurd (let other = (x.1 e).1 in cc));
     gives_up = (λ x. ((e, unasked), near), λ x. refl);
@@ -464,7 +520,7 @@ module _ {H : Type 0} where
       λ x. absurd cc,
       λ x. elim x [
         | inl way ↦ absurd (let other = way.1 in cc)
-        | inr none ↦ absurd (not_gone es h n (inr (first_in (draining es) n e)) none)
+        | inr over ↦ absurd (not_gone es h n (inr (first_in (draining es) n e)) over.1)
       ],
     );
   }
@@ -472,6 +528,7 @@ module _ {H : Type 0} where
   pub drains : (es : List (Event H)) → IsHistory es → (n : ℕ) → in_the_way es ≡ Some n → is_asked es ≡ false → near_since es ≡ None
       → IsPhase Draining es n
   drains es h n e unasked near = record {
+    awaits = (λ x. absurd cc, λ above. absurd (not_above es h n (first_in (draining es) n e) above));
     serves = (λ x. absurd cc, λ f. absurd (apart es h n f (first_in (draining es) n e)));
     drains = (λ x. (first_in (draining es) n e, λ way. (unasked, near)), λ x. refl);
     gives_up = (λ x. absurd cc, λ x. absurd (let other = x.1 in cc));
@@ -479,7 +536,7 @@ module _ {H : Type 0} where
       λ x. absurd cc,
       λ x. elim x [
         | inl way ↦ absurd (let other = way.1 in cc)
-        | inr none ↦ absurd (not_gone es h n (inr (first_in (draining es) n e)) none)
+        | inr over ↦ absurd (not_gone es h n (inr (first_in (draining es) n e)) over.1)
       ],
     );
   }

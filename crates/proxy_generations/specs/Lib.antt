@@ -6,3 +6,6 @@ pub mod History
 pub mod Phase
 pub mod GenerationsState
 pub mod Laws
+pub mod Accepting
+pub mod Mode
+pub mod Marks

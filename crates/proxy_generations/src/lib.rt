@@ -5,9 +5,13 @@
 mod laws;
 mod lifecycle;
 mod marks;
+mod mode;
 mod older;
 mod opened;
+mod phase;
 
 pub use laws::generations_follow;
-pub use lifecycle::{Due, Generations, Phase};
-pub use marks::Marks;
+pub use lifecycle::{At, Due, Generations};
+pub use marks::{Look, Marks, Report};
+pub use mode::{Change, Mode};
+pub use phase::Phase;

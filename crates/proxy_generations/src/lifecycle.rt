@@ -1,9 +1,9 @@
-//! The task of each generation.
+//! What becomes of each generation.
 //!
 //! ```text
 //!  Unasked ── full ──> Wanted ── take_due ──> being opened ── opened ──> Serving
-//!                        ▲ failed                  │                        │ the next one: opened
-//!                        └─────────────────────────┘                        ▼
+//!     ▲                                            │ failed                 │ the next one: opened
+//!     └────────────────────────────────────────────┘                        ▼
 //!                                                             drained <── Draining, till it has no connection
 //!  the oldest alone, where as many drain as may:                            │ near, and no host answers it
 //!                                                                           ▼
@@ -13,25 +13,22 @@
 ghost use Rattle.std.specs.Prelude.{◌≡◌, ◌↔◌, true, [], List, IsTrue, Contains, slice_get, Some, IsNone, IfSome, length};
 ghost use Rattle.std.specs.Option.{SomeIff};
 ghost use Rattle.proxy_generations.specs.Events.{Event, Opened, Failed, Near, Full, Renewed, Progressed, Drained, Swept, newest, draining, has_connections, last_sweep};
-ghost use Rattle.proxy_generations.specs.History.{MayHappen};
+ghost use Rattle.proxy_generations.specs.History.{IsHistory, MayHappen};
 ghost use Rattle.proxy_generations.specs.Moments.{HavePassed};
 
 use crate::older::Older;
 use crate::opened::Open;
+use crate::phase::Phase;
 use limits::{GIVING_UP_MS, MAX_DRAINING_MS, STILL_MS};
 use std::mem;
 
-/// The task of a generation.
+/// A generation, and the moment of what is told of it.
 #[derive(Clone, Copy, Debug, PartialEq, Eq)]
-pub enum Phase {
-    /// The newest open one, which accepts sockets.
-    Serving,
-    /// It takes in nothing more, and answers what it accepted.
-    Draining,
-    /// The parts that wait for hosts are given up.
-    GivingUp,
-    /// Its connections are closed at once.
-    Stopped,
+pub struct At {
+    /// The generation's number.
+    pub number: u64,
+    /// The moment, in milliseconds.
+    pub now: u64,
 }
 
 /// A generation to open.
@@ -88,7 +85,7 @@ impl<H: Drop> Drop for Generations<H> {
 }
 
 impl<H: Drop> Generations<H> {
-    ghost use Rattle.proxy_generations.specs.Phase.{IsPhase};
+    ghost use Rattle.proxy_generations.specs.Phase.{IsPhase, IsTask};
     ghost use Rattle.proxy_generations.specs.OpenGenerations.{HadTime, MayBeLeft};
     ghost use Rattle.proxy_generations.specs.Older.{first_if_full, numbers_of};
     ghost use Rattle.proxy_generations.specs.GenerationsState.{Settings, Stands, Tells, Gives, EndsServing, IsSweepDue};
@@ -146,11 +143,12 @@ impl<H: Drop> Generations<H> {
         }
     }
 
-    /// The generation is the newest one from the moment `now` on, and the one before drains. Ignored unless it is
+    /// The generation is the newest one from this moment on, and the one before drains. Ignored unless it is
     /// being opened.
-    pub fn opened(&mut self, number: u64, now: u64)
-        ensures { Tells (Opened number now) self.old self.new }
+    pub fn opened(&mut self, at: At)
+        ensures { Tells (Opened at.number at.now) self.old self.new }
     {
+        let At { number, now } = at;
         if self.is_opening(number) {
             self.older.add(self.newest);
             self.newest = Some(Open {
@@ -189,15 +187,15 @@ impl<H: Drop> Generations<H> {
             || have_passed(self.drains_since, MAX_DRAINING_MS, now)
     }
 
-    /// The newest generation is near its marks at the moment `now`: the one in the way is given up.
+    /// The newest generation is near its marks at this moment: the one in the way is given up.
     ///
     /// Ignored unless `by` is the newest one. Ignored within `STILL_MS` milliseconds of a host's last answer to the
     /// one in the way, or of the newest one's opening, until that was `MAX_DRAINING_MS` ago.
-    pub fn near(&mut self, by: u64, now: u64)
-        ensures { Tells (Near by now) self.old self.new }
+    pub fn near(&mut self, by: At)
+        ensures { Tells (Near by.number by.now) self.old self.new }
     {
-        if Open::has_number(self.newest, by) && self.may_be_left(now) {
-            self.near_since = Some(self.near_since.unwrap_or(now));
+        if Open::has_number(self.newest, by.number) && self.may_be_left(by.now) {
+            self.near_since = Some(self.near_since.unwrap_or(by.now));
         }
     }
 
@@ -208,13 +206,13 @@ impl<H: Drop> Generations<H> {
         self.older.has_room() || have_passed(self.near_since, GIVING_UP_MS, now)
     }
 
-    /// The newest generation has reached its marks at the moment `now`, or accepts nothing more: the next one is
+    /// The newest generation has reached its marks at this moment, or accepts nothing more: the next one is
     /// wanted, from this handover, and the one in the way stops.
     ///
     /// Ignored, and the handover dropped, unless `by` is the newest one and none is wanted or being opened. Ignored
     /// while the one in the way hasn't been given up for `GIVING_UP_MS` milliseconds, and after 2^64 generations.
-    pub fn full(&mut self, by: u64, now: u64, handover: H)
-        ensures { Tells (Full by now handover) self.old self.new }
+    pub fn full(&mut self, by: At, handover: H)
+        ensures { Tells (Full by.number by.now handover) self.old self.new }
     {
         let NextGeneration::Unasked = &self.next else {
             return;
@@ -225,7 +223,7 @@ impl<H: Drop> Generations<H> {
         let Some(asked) = self.asked.checked_add(1) else {
             return;
         };
-        if newest.number == by && self.has_given_up(now) {
+        if newest.number == by.number && self.has_given_up(by.now) {
             self.next = NextGeneration::Wanted(Some(handover));
             self.asked = asked;
             self.handed_sweep = Some(newest.swept);
@@ -252,12 +250,12 @@ impl<H: Drop> Generations<H> {
         None
     }
 
-    /// A host has answered commands by the moment `now`. Ignored unless the generation is in the way.
-    pub fn progressed(&mut self, number: u64, now: u64)
-        ensures { Tells (Progressed number now) self.old self.new }
+    /// A host has answered commands by this moment. Ignored unless the generation is in the way.
+    pub fn progressed(&mut self, at: At)
+        ensures { Tells (Progressed at.number at.now) self.old self.new }
     {
-        if self.is_in_the_way(number) {
-            self.still_since = Some(now);
+        if self.is_in_the_way(at.number) {
+            self.still_since = Some(at.now);
         }
     }
 
@@ -270,24 +268,37 @@ impl<H: Drop> Generations<H> {
         }
     }
 
-    /// The task of a generation; `Stopped` before it opens and once it has drained.
-    pub fn phase(&self, number: u64) -> Phase
+    /// What a generation that drains is to do; `None` where it doesn't drain.
+    pub fn task(&self, number: u64) -> Option<Phase>
         ensures { (s : Settings) (es : List (Event H)) → Stands self.now s es
-            → IsPhase result es number }
+            → IsTask result es number }
     {
-        if Open::has_number(self.newest, number) {
-            return Phase::Serving;
-        }
         if !self.older.has(number) {
-            return Phase::Stopped;
+            return None;
         }
         if !self.is_in_the_way(number) {
-            return Phase::Draining;
+            return Some(Phase::Draining);
         }
         match &self.next {
-            NextGeneration::Wanted(_) => Phase::Stopped,
-            _ if self.near_since.is_some() => Phase::GivingUp,
-            _ => Phase::Draining,
+            NextGeneration::Wanted(_) => Some(Phase::Stopped),
+            _ if self.near_since.is_some() => Some(Phase::GivingUp),
+            _ => Some(Phase::Draining),
+        }
+    }
+
+    /// What a generation is to do, by the number of the newest open one and by its own task, as `newest` and `task` told
+    /// them. So threads that know these two need nothing more.
+    pub fn phase_by(last: Option<u64>, task: Option<Phase>, number: u64) -> Phase
+        ensures { (es : List (Event H)) → IsHistory es → last ≡ newest es → IsTask task es number
+            → IsPhase result es number }
+    {
+        if let Some(task) = task {
+            return task;
+        }
+        match last {
+            Some(last) if last == number => Phase::Serving,
+            Some(last) if last > number => Phase::Stopped,
+            _ => Phase::Unopened,
         }
     }
 
@@ -346,23 +357,24 @@ impl<H: Drop> Generations<H> {
         }
     }
 
-    /// Whether a sweep is due at the moment `now`: the interval has passed since the last one that the generation
+    /// Whether a sweep is due at this moment: the interval has passed since the last one that the generation
     /// knows. At first that is the last one of the generation before it; for the first generation, its opening. None
     /// is due if the clock went back, or if the generation isn't open or has drained.
-    pub fn is_sweep_due(&self, number: u64, now: u64) -> bool
+    pub fn is_sweep_due(&self, at: At) -> bool
         ensures { (s : Settings) (es : List (Event H)) → Stands self.now s es
-            → IsTrue result ↔ IsSweepDue s es number now }
+            → IsTrue result ↔ IsSweepDue s es at.number at.now }
     {
-        match self.last_sweep(number) {
+        match self.last_sweep(at.number) {
             None => false,
-            Some(last) => now >= last && now - last >= self.interval_ms,
+            Some(last) => at.now >= last && at.now - last >= self.interval_ms,
         }
     }
 
-    /// A sweep was made at the moment `now`. Ignored where the generation isn't open, or has drained.
-    pub fn swept(&mut self, number: u64, now: u64)
-        ensures { Tells (Swept number now) self.old self.new }
+    /// A sweep was made at this moment. Ignored where the generation isn't open, or has drained.
+    pub fn swept(&mut self, at: At)
+        ensures { Tells (Swept at.number at.now) self.old self.new }
     {
+        let At { number, now } = at;
         if Open::has_number(self.newest, number) {
             self.newest = Some(Open { number, swept: now });
         } else if self.older.has(number) {

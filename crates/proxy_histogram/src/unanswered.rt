@@ -1,7 +1,13 @@
+ghost use Rattle.std.specs.Prelude.{◌≡◌, ◌≢◌, ◌≤◌, ◌<◌, ◌+◌, ◌-◌, ◌^◌, ◌⊎◌, ◌++◌, [], Some, length, replicate, slice_get};
+ghost use Rattle.std.specs.Bool.{OnTrue, OnFalse};
+ghost use Rattle.proxy_histogram.specs.Unanswered.{AnswersOldest, JoinsLast};
+
 use crate::histogram::Histogram;
 use std::alloc::Global;
 use std::collections::VecDeque;
+use std::marker::Model;
 
+// Commands accepted at one moment.
 #[derive(Clone, Copy, Drop)]
 struct Run {
     since: u64,
@@ -14,64 +20,113 @@ const NONE: Run = Run { since: 0, count: 0 };
 /// commands.
 #[derive(Drop)]
 pub struct Unanswered {
-    // No run is empty.
     first: Run,
     later: VecDeque<Run>,
 }
 
+impl Model for Unanswered {
+    ghost use Rattle.std.specs.Prelude.{ℕ, List};
+    ghost use Rattle.proxy_histogram.specs.Unanswered.{HasNoEmptyRun, moments_of};
+
+    ghost Value = { List ℕ };
+
+    ghost view = { λ u. moments_of u.first u.later.items };
+
+    ghost invariant = { λ u. HasNoEmptyRun u.first u.later.items };
+}
+
 impl Unanswered {
     /// No command is unanswered.
-    pub fn new(alloc: Global) -> Unanswered {
+    pub fn new(alloc: Global) -> Unanswered
+        ensures { result ≡ [] }
+    {
         Unanswered {
             first: NONE,
             later: VecDeque::new(alloc),
         }
     }
 
-    /// Adds commands accepted at this moment, or, without memory, with those before.
-    pub fn accepted(&mut self, now: u64, count: u64) {
+    /// Adds commands accepted at this moment. False: there is no memory, and they count as accepted with the last ones
+    /// before them.
+    pub fn accepted(&mut self, now: u64, count: u64) -> bool
+        ensures added { length self.old + count < 2 ^ 64
+            → OnTrue result (self.new ≡ self.old ++ replicate count now) }
+        ensures joined { length self.old + count < 2 ^ 64
+            → OnFalse result (JoinsLast self.old self.new count) }
+    {
         if count == 0 {
-            return;
+            return true;
         }
         if self.first.count == 0 {
             self.first = Run { since: now, count };
-            return;
+            return true;
         }
-        let is_new = self.last_since() != now;
-        if !is_new || self.later.push_back(Run { since: now, count }).is_err() {
+        if self.last_since() == now {
             self.join_last(count);
+            return true;
         }
+        if self.later.push_back(Run { since: now, count }).is_ok() {
+            return true;
+        }
+        self.join_last(count);
+        false
     }
 
-    fn last_since(&self) -> u64 {
+    // Some command must be unanswered.
+    fn last_since(&self) -> u64
+        requires { self.now ≢ [] }
+        ensures { slice_get self.now (length self.now - 1) ≡ Some result }
+    {
         match self.later.back() {
             Some(last) => last.since,
             None => self.first.since,
         }
     }
 
-    fn join_last(&mut self, count: u64) {
-        if let Some(last) = self.later.back_mut() {
-            last.count = last.count.saturating_add(count);
+    // Some command must be unanswered.
+    fn join_last(&mut self, count: u64)
+        requires { self.old ≢ [] }
+        ensures { length self.old + count < 2 ^ 64 → JoinsLast self.old self.new count }
+    {
+        let Some(last) = self.later.pop_back() else {
+            self.first.count = self.first.count.saturating_add(count);
             return;
-        }
-        self.first.count = self.first.count.saturating_add(count);
+        };
+        self.later.push_back_reserved(Run {
+            since: last.since,
+            count: last.count.saturating_add(count),
+        });
     }
 
-    /// Records the durations of this many commands, answered at this moment.
-    pub fn answered(&mut self, now: u64, count: u64, durations: &mut Histogram) {
+    /// Records the durations of this many commands, answered at this moment; of all where fewer are unanswered.
+    pub fn answered(&mut self, now: u64, count: u64, durations: &mut Histogram)
+        ensures { AnswersOldest self.old self.new now count durations.old durations.new }
+    {
         let mut left = count;
-        for _ in 0..count {
-            let some = left.min(self.first.count);
-            if some == 0 {
+        for _run in 0..count {
+            let run = self.take_first(left);
+            if run.count == 0 {
                 return;
             }
-            durations.record_times(now.saturating_sub(self.first.since), some);
-            left -= some;
-            self.first.count -= some;
-            if self.first.count == 0 {
-                self.first = self.later.pop_front().unwrap_or(NONE);
-            }
+            durations.record_times(now.saturating_sub(run.since), run.count);
+            left -= run.count;
         }
+    }
+
+    // At most this many of the oldest ones, accepted at one moment.
+    fn take_first(&mut self, most: u64) -> Run
+        ensures taken { self.old ≡ replicate result.count result.since ++ self.new }
+        ensures few { result.count ≤ most }
+        ensures none { result.count ≡ 0 → (most ≡ 0) ⊎ (self.old ≡ []) }
+    {
+        let taken = Run {
+            since: self.first.since,
+            count: most.min(self.first.count),
+        };
+        self.first.count -= taken.count;
+        if self.first.count == 0 {
+            self.first = self.later.pop_front().unwrap_or(NONE);
+        }
+        taken
     }
 }

@@ -7,16 +7,16 @@ use splitter::Local;
 pub enum Answer {
     /// The connection is open.
     Opened {
-        /// Its number.
+        /// The connection's number.
         conn: u64,
     },
     /// The command is accepted.
     Accepted {
-        /// Its number in its connection, from 0.
+        /// The command's number in its connection, from 0.
         index: u64,
         /// The kind of the proxy's own answer, if it is one.
         local: Option<Local>,
-        /// Its parts.
+        /// The command's parts.
         parts: u64,
         /// Parts without a usable host, whose value is `no upstream host`.
         no_host: u64,
@@ -57,7 +57,7 @@ pub enum Answer {
     },
     /// The reply is written to the client.
     Bytes {
-        /// Its text.
+        /// The reply's text.
         text: Bytes,
     },
     /// The connection is closed.

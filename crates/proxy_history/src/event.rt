@@ -23,7 +23,7 @@ pub enum Event {
     Arrived {
         /// The connection's number.
         conn: u64,
-        /// The request.
+        /// What the client asks.
         request: Request,
     },
     /// Its input ended: the connection accepts no later command.
@@ -42,7 +42,7 @@ pub enum Event {
         host: usize,
         /// The host's faults before the link was made.
         epoch: u64,
-        /// The reply.
+        /// The host's reply.
         value: Value,
         /// The moment.
         t: u64,
@@ -53,7 +53,7 @@ pub enum Event {
         host: usize,
         /// The host's faults before the link was made.
         epoch: u64,
-        /// The fault.
+        /// What failed.
         kind: Kind,
         /// The moment.
         t: u64,

@@ -33,13 +33,13 @@ pub fn unopened_have_no_steps()
     ensures { UnopenedHaveNoSteps }
 {}
 
-/// The meaning of a refusal: its cause holds.
+/// The cause of a refusal holds.
 pub fn refusals_mean()
     ensures { RefusalsMean }
 {}
 
-/// Handing out is refused as not ready exactly if the connection is open and has no unwritten command, or the next of
-/// these has no outcome yet.
+/// Handing out is refused as not ready exactly if the connection is open and has no unwritten command, or its next one
+/// has no outcome yet.
 pub fn not_ready_means()
     ensures { NotReadyMeans }
 {}
@@ -84,9 +84,9 @@ pub fn closed_gets_nothing()
     ensures { ClosedGetsNothing }
 {}
 
-/// Each part is the part of its number of a command that arrived. It has for good the host that owned its key at that
-/// time, or `no upstream host` if there was none. It has `proxy busy` exactly if 1,024 parts waited for that host when
-/// its turn within its command came.
+/// Each part is the part of its number of a command that arrived. It has for good the host that owned its key then, or
+/// `no upstream host` if there was none. It has `proxy busy` exactly if 1,024 parts waited for that host when its turn
+/// within its command came.
 pub fn parts_have_arrived()
     ensures { PartsHaveArrived }
 {}
@@ -158,8 +158,8 @@ pub fn owners_stay()
     ensures { OwnersStay }
 {}
 
-/// Ejections change only the hosts of parts. Whatever outlier detection has seen, each event is refused or answered
-/// alike, except for the hosts of parts and for what the answer says of hosts.
+/// Whatever outlier detection has seen, each event is refused or answered alike, except for the hosts of parts and for
+/// what the answer says of hosts.
 pub fn ejections_choose_hosts_alone()
     ensures { EjectionsChooseHostsAlone }
 {}

@@ -3,6 +3,7 @@ ghost use Rattle.std.specs.Prelude.{◌≡◌, ◌≢◌, ◌⊎◌, ◌+◌, �
 ghost use Rattle.std.specs.Io.Buffered.{writer_contents};
 ghost use Rattle.std.specs.Io.KnownBytes.{Keeps, append_known};
 ghost use Rattle.proxy_core.specs.Recorded.{IsCauseIn, journal_of, made_with};
+ghost use Rattle.proxy_devices.specs.Device.{passed_all};
 ghost use Rattle.std.specs.List.{AllZip};
 ghost use Rattle.journal_core.specs.Journal.{step_by};
 ghost use Rattle.proxy_history.specs.declared.answer.Answer.{Answer};
@@ -73,9 +74,9 @@ fn open_client<Rt: Wait, T: CoreTurns, R: Read + Drop, W: Write + Drop>(
     reader: R,
     writer: W,
 ) -> Result<Client<R, W>, Ending>
-    ensures turns { KeepsTurns T.pass T.setting T.seen turns.old turns.new }
-    ensures opened { IfOk result (λ e. OpensClient (T.pass turns.old)
-        (own_history T.pass T.seen turns.old) (own_history T.pass T.seen turns.new)
+    ensures turns { KeepsTurns (T.facts turns.old) (T.facts turns.new) }
+    ensures opened { IfOk result (λ e. OpensClient (T.facts turns.old).pass
+        (own_history (T.facts turns.old)) (own_history (T.facts turns.new))
         (record {
           remaining = R.remaining reader;
           told = [];
@@ -84,10 +85,11 @@ fn open_client<Rt: Wait, T: CoreTurns, R: Read + Drop, W: Write + Drop>(
         (record {
           contents = append_known (W.contents writer) [];
           taken = [];
+          passed = passed_all [];
           counts = record { failed = 0; paused = 0 };
         }) e) }
     ensures carries { IfOk result (λ e. Carries e
-        (own_history T.pass T.seen turns.new) [] []) }
+        (own_history (T.facts turns.new)) [] []) }
 {
     let Ok(output) = BufWriter::with_capacity(alloc, MAX_BUFFERED, writer) else {
         return Err(Ending::Memory);
@@ -224,10 +226,10 @@ fn step_client<Rt: Wait, T: CoreTurns, R: ReadTally + Drop, W: WriteTally + Drop
     client: &mut ClientEngine<R, W>,
     left: &mut u32,
 ) -> Result<Progress, Ending>
-    ensures turns { KeepsTurns T.pass T.setting T.seen turns.old turns.new }
+    ensures turns { KeepsTurns (T.facts turns.old) (T.facts turns.new) }
     ensures goes { GoesBeside client.old client.new
-        (own_history T.pass T.seen turns.old)
-        (own_history T.pass T.seen turns.new) }
+        (own_history (T.facts turns.old))
+        (own_history (T.facts turns.new)) }
     ensures ended { IfOk result (λ p. p ≡ Progress.Ended → client.new.stage ≡ Stage.Closed false) }
     ensures cut { IfOk result (λ p. p ≢ Progress.Cut) }
 {
@@ -249,11 +251,11 @@ fn settle<Rt: Wait, T: CoreTurns, P: ReadTally + Drop, Q: WriteTally + Drop>(
     hosts: &mut [HostEngine<P, Q>],
     left: &mut u32,
 ) -> Result<(), Ending>
-    ensures turns { KeepsTurns T.pass T.setting T.seen turns.old turns.new }
-    ensures beside { IsBeside (own_history T.pass T.seen turns.old)
-        (own_history T.pass T.seen turns.new) }
-    ensures rested { OnOk result (HaveRested (T.cause (T.setting turns.old))
-        (T.seen turns.old) (T.seen turns.new) hosts.new) }
+    ensures turns { KeepsTurns (T.facts turns.old) (T.facts turns.new) }
+    ensures beside { IsBeside (own_history (T.facts turns.old))
+        (own_history (T.facts turns.new)) }
+    ensures rested { OnOk result (HaveRested (T.cause (T.facts turns.old).setting)
+        (T.facts turns.old).seen (T.facts turns.new).seen hosts.new) }
 {
     for _ in 0..MAX_ENGINE_STEPS {
         if step_hosts(rt, turns, hosts, left)? {
@@ -270,11 +272,12 @@ fn step_hosts<Rt: Wait, T: CoreTurns, P: ReadTally + Drop, Q: WriteTally + Drop>
     hosts: &mut [HostEngine<P, Q>],
     left: &mut u32,
 ) -> Result<bool, Ending>
-    ensures turns { KeepsTurns T.pass T.setting T.seen turns.old turns.new }
-    ensures beside { IsBeside (own_history T.pass T.seen turns.old)
-        (own_history T.pass T.seen turns.new) }
-    ensures idle { IfOk result (λ b. b ≡ true → AllZip (RestsIdle (T.cause (T.setting turns.old))
-        (T.seen turns.old) (T.seen turns.new)) hosts.old hosts.new) }
+    ensures turns { KeepsTurns (T.facts turns.old) (T.facts turns.new) }
+    ensures beside { IsBeside (own_history (T.facts turns.old))
+        (own_history (T.facts turns.new)) }
+    ensures idle { IfOk result (λ b. b ≡ true → AllZip
+        (RestsIdle (T.cause (T.facts turns.old).setting)
+        (T.facts turns.old).seen (T.facts turns.new).seen) hosts.old hosts.new) }
 {
     let mut are_idle = true;
     for host in hosts.iter_mut() {
@@ -292,11 +295,11 @@ fn step_host<Rt: Wait, T: CoreTurns, P: ReadTally + Drop, Q: WriteTally + Drop>(
     host: &mut HostEngine<P, Q>,
     left: &mut u32,
 ) -> Result<bool, Ending>
-    ensures turns { KeepsTurns T.pass T.setting T.seen turns.old turns.new }
-    ensures beside { IsBeside (own_history T.pass T.seen turns.old)
-        (own_history T.pass T.seen turns.new) }
-    ensures idle { IfOk result (λ b. b ≡ true → RestsIdle (T.cause (T.setting turns.old))
-        (T.seen turns.old) (T.seen turns.new) host.old host.new) }
+    ensures turns { KeepsTurns (T.facts turns.old) (T.facts turns.new) }
+    ensures beside { IsBeside (own_history (T.facts turns.old))
+        (own_history (T.facts turns.new)) }
+    ensures idle { IfOk result (λ b. b ≡ true → RestsIdle (T.cause (T.facts turns.old).setting)
+        (T.facts turns.old).seen (T.facts turns.new).seen host.old host.new) }
 {
     spend(left)?;
     match host.step(rt, turns, MOMENT) {

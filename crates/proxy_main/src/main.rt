@@ -2,9 +2,8 @@
 //! `proxy_config`, `proxy_command_line` and `proxy_exit_status`. Begin with `run`; `serve` is in `proxy_serve`, `local`
 //! in `proxy_local`.
 #![tactic(auto)]
-
-ghost use Rattle.std.specs.Prelude.{IfOk};
-ghost use Rattle.proxy_config.specs.RingParts.{AreRingParts};
+ghost use Rattle.std.specs.Prelude.{◌≡◌};
+ghost use Rattle.proxy_exit_status.specs.Ending.{status_of};
 
 use mio::net::TcpListener;
 use proxy_command_line::{Action, CommandLineError, KIT, VERSION};
@@ -52,11 +51,8 @@ fn run_check<R: Runtime + AllocGlobal>(rt: &R, config: &str) -> u8 {
 }
 
 fn checked<R: Runtime + AllocGlobal>(rt: &R, config: &str) -> Result<String, ConfigError> {
-    match fs::read(rt, config) {
-        Ok(bytes) => check_line(rt.alloc(), bytes.as_slice()),
-        Err(error) if error.kind() == io::ErrorKind::OutOfMemory => Err(ConfigError::Memory),
-        Err(_) => Err(ConfigError::Fault("file")),
-    }
+    let bytes = read_file(rt, config)?;
+    check_line(rt.alloc(), bytes.as_slice())
 }
 
 // Serves clients on the settings' address. Returns the status.
@@ -102,9 +98,7 @@ fn serve_by<
     log: Log,
     connections: u64,
     metrics: Option<SocketAddr>,
-) -> Result<(), Stop>
-    requires { AreRingParts config.hosts.items config.weights.items }
-{
+) -> Result<(), Stop> {
     let listener = match TcpListener::bind(rt, config.listen) {
         Ok(listener) => listener,
         Err(error) => {
@@ -115,7 +109,7 @@ fn serve_by<
         admin: admin(rt, metrics)?,
         status: File::open(rt, "/proc/self/status").ok(),
         connections,
-        marks: Marks::FULL,
+        marks: Marks::full(),
         log,
     };
     serve(
@@ -156,28 +150,34 @@ fn log<R: Runtime + AllocGlobal>(rt: &R) -> Log {
     Log::new(env::var(rt, "JOURNAL_STREAM").is_ok())
 }
 
-fn settings_of<R: Runtime + AllocGlobal>(rt: &R, config: &str) -> Result<Config, ConfigError>
-    ensures { IfOk result
-        (λ config. AreRingParts config.hosts.items config.weights.items) }
-{
-    match fs::read(rt, config) {
-        Ok(bytes) => Config::read(rt.alloc(), bytes.as_slice()),
+fn settings_of<R: Runtime + AllocGlobal>(rt: &R, config: &str) -> Result<Config, ConfigError> {
+    let bytes = read_file(rt, config)?;
+    Config::read(rt.alloc(), bytes.as_slice())
+}
+
+fn read_file<R: Runtime + AllocGlobal>(rt: &R, path: &str) -> Result<Vec<u8>, ConfigError> {
+    match fs::read(rt, path) {
+        Ok(bytes) => Ok(bytes),
         Err(error) if error.kind() == io::ErrorKind::OutOfMemory => Err(ConfigError::Memory),
         Err(_) => Err(ConfigError::Fault("file")),
     }
 }
 
 // Logs why the program ends. Returns the status.
-fn ended<R: Eprint>(rt: &R, ending: Ending) -> u8 {
+fn ended<R: Eprint>(rt: &R, ending: Ending) -> u8
+    ensures { result ≡ status_of ending }
+{
     let _ = eprintln!(rt; "{ending}");
     ending.status()
 }
 
 // Logs why the server ended and what failed. Returns the status.
-fn stopped<R: Eprint>(rt: &R, log: Log, stop: Stop) -> u8 {
+fn stopped<R: Eprint>(rt: &R, log: Log, stop: Stop) -> u8
+    ensures { result ≡ status_of stop.ending }
+{
     let tag = log.tag(Level::Error);
     let _ = eprintln!(rt; "{tag}{stop}");
-    stop.ending.status()
+    stop.status()
 }
 
 fn run<

@@ -1,8 +1,10 @@
 ghost use Rattle.std.specs.Prelude.{◌≡◌, ◌≢◌, ◌<◌, ◌≤◌, ◌⊎◌, ℕ};
 ghost use Rattle.proxy_notices.specs.ClientPlace.{code_of};
 
-/// Clients of this key on are told with all others.
-pub const MAX_KEYS: usize = 4_096;
+use limits::MAX_SOCKETS;
+
+/// Clients of this key on are told with all others: as many keys as there may be sockets.
+pub const MAX_KEYS: usize = MAX_SOCKETS as usize;
 
 /// No client has the slot.
 pub(crate) const FREE: u64 = 0;

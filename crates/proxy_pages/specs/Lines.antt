@@ -19,9 +19,9 @@ abbrev pub plain_text : List ℕ → List ℕ → ℕ → List ℕ
 plain_text name suffix number = concat (name ∷ suffix ∷ codes " " ∷ decimal number ∷ codes "\n" ∷ [])
 
 -- a number with one label
-abbrev pub labelled_text : List ℕ → List ℕ → List ℕ → List ℕ → ℕ → List ℕ
-labelled_text name suffix key value number =
-    concat (name ∷ suffix ∷ codes "{" ∷ key ∷ codes "=\"" ∷ value ∷ codes "\"} " ∷ decimal number ∷ codes "\n" ∷ [])
+abbrev pub labelled_text : List ℕ → List ℕ → List ℕ → ℕ → List ℕ
+labelled_text name key value number =
+    concat (name ∷ codes "{" ∷ key ∷ codes "=\"" ∷ value ∷ codes "\"} " ∷ decimal number ∷ codes "\n" ∷ [])
 
 -- a number of a host
 abbrev pub host_text : List ℕ → List ℕ → ℕ → List ℕ
@@ -39,3 +39,7 @@ bound_text name ms number =
     concat (name ∷ codes "_bucket{le=\"" ∷ [])
     ++ seconds_text ms
     ++ concat (codes "\"} " ∷ decimal number ∷ codes "\n" ∷ [])
+
+-- how many values there were, as the last of the bounds
+abbrev pub last_bound_text : List ℕ → ℕ → List ℕ
+last_bound_text name number = concat (name ∷ codes "_bucket{le=\"+Inf\"} " ∷ decimal number ∷ codes "\n" ∷ [])

@@ -13,7 +13,7 @@ use Rattle.proxy_pages.specs.declared.metric.HostNumber.{HostNumber}
 use Rattle.proxy_pages.specs.declared.metric.HostNumber.TheVariants.{Sent, Answered, Faults, Lost, Waiting, Flying}
 use Rattle.proxy_pages.specs.declared.snapshot.About.{About}
 use Rattle.proxy_pages.specs.declared.snapshot.Snapshot.{Snapshot}
-use Rattle.proxy_pages.specs.Lines.{plain_text, labelled_text, host_text, build_text, bound_text, seconds_text}
+use Rattle.proxy_pages.specs.Lines.{plain_text, labelled_text, host_text, build_text, bound_text, last_bound_text, seconds_text}
 use Rattle.proxy_pages.specs.Table.{Row, metrics}
 use Rattle.proxy_pages.specs.Numbers.{number_of, host_number, journal_number, load_at}
 
@@ -50,14 +50,14 @@ answer_word i =
 
 -- what the proxy answered itself, by the kind of the answer
 abbrev pub answers_text : List ℕ → Counts → List ℕ
-answers_text name c = each 7 (λ i. labelled_text name [] (codes "kind") (answer_word i) (slice_index c.local i))
+answers_text name c = each 7 (λ i. labelled_text name (codes "kind") (answer_word i) (slice_index c.local i))
 
 -- parts that got an error of the proxy's own, by its cause
 abbrev pub causes_text : List ℕ → Counts → List ℕ
 causes_text name c =
-    labelled_text name [] (codes "cause") (codes "upstream_failure") c.lost
-    ++ labelled_text name [] (codes "cause") (codes "no_upstream_host") c.no_host
-    ++ labelled_text name [] (codes "cause") (codes "proxy_busy") c.busy
+    labelled_text name (codes "cause") (codes "upstream_failure") c.lost
+    ++ labelled_text name (codes "cause") (codes "no_upstream_host") c.no_host
+    ++ labelled_text name (codes "cause") (codes "proxy_busy") c.busy
 
 -- a number of each host
 abbrev pub host_numbers_text : About → Snapshot → List ℕ → HostNumber → List ℕ
@@ -76,7 +76,7 @@ sum_text name h = concat (name ∷ codes "_sum " ∷ []) ++ seconds_text h.sum_m
 abbrev pub durations_text : List ℕ → Histogram → List ℕ
 durations_text name h =
     bounds_text name h
-    ++ labelled_text name (codes "_bucket") (codes "le") (codes "+Inf") h.total
+    ++ last_bound_text name h.total
     ++ sum_text name h
     ++ plain_text name (codes "_count") h.total
 
@@ -88,8 +88,8 @@ numbers_by about s name ByAnswer = answers_text name s.counts
 numbers_by about s name ByCause = causes_text name s.counts
 numbers_by about s name (ByHost number) = host_numbers_text about s name number
 numbers_by about s name (ByJournal number) =
-    labelled_text name [] (codes "journal") (codes "serving") (journal_number number s.serving)
-    ++ labelled_text name [] (codes "journal") (codes "draining") (journal_number number s.draining)
+    labelled_text name (codes "journal") (codes "serving") (journal_number number s.serving)
+    ++ labelled_text name (codes "journal") (codes "draining") (journal_number number s.draining)
 numbers_by about s name Durations = durations_text name s.durations
 
 -- the numbers of a metric

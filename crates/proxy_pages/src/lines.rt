@@ -1,7 +1,7 @@
 //! Lines of Prometheus's text format.
 ghost use Rattle.std.specs.Prelude.{◌≡◌, ◌++◌, OnOk, map};
 ghost use Rattle.std.specs.List.{concat};
-ghost use Rattle.proxy_pages.specs.Lines.{plain_text, labelled_text, host_text, build_text, bound_text, seconds_text, escaped};
+ghost use Rattle.proxy_pages.specs.Lines.{plain_text, labelled_text, host_text, build_text, bound_text, last_bound_text, seconds_text, escaped};
 
 use itoa::Buffer;
 use std::alloc::AllocError;
@@ -35,20 +35,18 @@ pub(crate) fn push_plain(
 pub(crate) fn push_labelled<'a>(
     page: &mut Vec<u8>,
     name: &'a str,
-    suffix: &'a str,
     key: &'a str,
     value: &'a str,
     number: u64,
 ) -> Result<(), AllocError>
     ensures { OnOk result (page.new.items
-        ≡ page.old.items ++ labelled_text name.now suffix.now key.now value.now number) }
+        ≡ page.old.items ++ labelled_text name.now key.now value.now number) }
 {
     let mut digits = Buffer::new();
     push_all(
         page,
         &[
             name,
-            suffix,
             "{",
             key,
             "=\"",
@@ -107,6 +105,18 @@ pub(crate) fn push_bound(
     push_all(page, &[name, "_bucket{le=\""])?;
     push_seconds(page, ms)?;
     push_all(page, &["\"} ", digits.format(number), "\n"])
+}
+
+/// Appends the number of all values, as that of the last bound.
+pub(crate) fn push_last_bound(page: &mut Vec<u8>, name: &str, number: u64) -> Result<(), AllocError>
+    ensures { OnOk result (page.new.items
+        ≡ page.old.items ++ last_bound_text name.now number) }
+{
+    let mut digits = Buffer::new();
+    push_all(
+        page,
+        &[name, "_bucket{le=\"+Inf\"} ", digits.format(number), "\n"],
+    )
 }
 
 /// Appends milliseconds as seconds with three decimals.

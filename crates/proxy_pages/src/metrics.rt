@@ -5,7 +5,8 @@ ghost use Rattle.proxy_pages.specs.Pages.{head_text, metric_text, metrics_text, 
 ghost use Rattle.proxy_pages.specs.Table.{row_of};
 
 use crate::lines::{
-    push_all, push_bound, push_build, push_labelled, push_of_host, push_plain, push_seconds,
+    push_all, push_bound, push_build, push_labelled, push_last_bound, push_of_host, push_plain,
+    push_seconds,
 };
 use crate::metric::{HostNumber, METRICS, Metric, Numbers, answer_word};
 use crate::snapshot::{About, Snapshot};
@@ -95,8 +96,8 @@ impl Metric {
                     number.of(&snapshot.serving),
                     number.of(&snapshot.draining),
                 );
-                push_labelled(page, self.name, "", "journal", "serving", serving)?;
-                push_labelled(page, self.name, "", "journal", "draining", draining)
+                push_labelled(page, self.name, "journal", "serving", serving)?;
+                push_labelled(page, self.name, "journal", "draining", draining)
             }
             Numbers::Durations => push_durations(page, self.name, &snapshot.durations),
         }
@@ -107,7 +108,7 @@ fn push_answers(page: &mut Vec<u8>, name: &str, counts: &Counts) -> Result<(), A
     ensures { OnOk result (page.new.items ≡ page.old.items ++ answers_text name.now counts.now) }
 {
     for i in 0..LOCAL_KINDS {
-        push_labelled(page, name, "", "kind", answer_word(i), counts.local[i])?;
+        push_labelled(page, name, "kind", answer_word(i), counts.local[i])?;
     }
     Ok(())
 }
@@ -115,9 +116,9 @@ fn push_answers(page: &mut Vec<u8>, name: &str, counts: &Counts) -> Result<(), A
 fn push_causes(page: &mut Vec<u8>, name: &str, counts: &Counts) -> Result<(), AllocError>
     ensures { OnOk result (page.new.items ≡ page.old.items ++ causes_text name.now counts.now) }
 {
-    push_labelled(page, name, "", "cause", "upstream_failure", counts.lost)?;
-    push_labelled(page, name, "", "cause", "no_upstream_host", counts.no_host)?;
-    push_labelled(page, name, "", "cause", "proxy_busy", counts.busy)
+    push_labelled(page, name, "cause", "upstream_failure", counts.lost)?;
+    push_labelled(page, name, "cause", "no_upstream_host", counts.no_host)?;
+    push_labelled(page, name, "cause", "proxy_busy", counts.busy)
 }
 
 fn push_hosts(
@@ -141,7 +142,7 @@ fn push_durations(page: &mut Vec<u8>, name: &str, durations: &Histogram) -> Resu
         ++ durations_text name.now durations.now) }
 {
     push_bounds(page, name, durations)?;
-    push_labelled(page, name, "_bucket", "le", "+Inf", durations.total)?;
+    push_last_bound(page, name, durations.total)?;
     push_sum(page, name, durations)?;
     push_plain(page, name, "_count", durations.total)
 }

@@ -1,11 +1,14 @@
 //! A generation: a journal, its gate, and the threads that make turns at it.
-ghost use Rattle.std.specs.Prelude.{◌≡◌, [], IfOk, None, Some, ⊤};
-ghost use Rattle.ticket_gate.specs.Gate.{IsSpareOf};
-ghost use Rattle.proxy_rounds.specs.Tasks.{HaveOwnPlaces, place_of};
-ghost use Rattle.proxy_connections.specs.WorkerConnections.{steps_of};
-ghost use Rattle.proxy_config.specs.RingParts.{AreRingParts};
+ghost use Rattle.std.specs.Prelude.{◌≡◌, [], IfOk, IfSome, None, Some, length, ⊤};
+ghost use Rattle.ticket_gate.specs.Gate.{IsPassOf};
+ghost use Rattle.ticket_gate.specs.Journal.{steps_of};
+ghost use Rattle.proxy_core.specs.Recorded.{journal_of};
+ghost use Rattle.proxy_core.specs.Handover.{HandoverFacts};
+ghost use Rattle.proxy_connections.specs.Assigned.{Assigned};
+ghost use Rattle.proxy_rounds.specs.Tasks.{HaveOwnPlaces, assigned_of};
 
 use crate::generation_state::{GenerationState, ThreadContext, WorkerStatus};
+use crate::seats::Seats;
 use crate::server::ServerContext;
 use crate::sweeping::SweepThread;
 use crate::worker::{WAKER, WorkerSetup};
@@ -13,7 +16,7 @@ use crossbeam_utils::CachePadded;
 use engine_work::{EngineError, Work, run_all};
 use mio::{Poll, Waker};
 use proxy_config::Config;
-use proxy_core::{CountingCore, Handover, Settings};
+use proxy_core::{CountingCore, Handover};
 use proxy_exit_status::Ending;
 use proxy_generations::Due;
 use proxy_notices::{Notices, Place};
@@ -25,7 +28,7 @@ use std::net::Net;
 use std::rt::Clock;
 use std::sync::{Arc, Wait};
 use std::thread::Threads;
-use ticket_gate::{Gate, Seated, Spare};
+use ticket_gate::{Gate, Pass};
 
 /// What `serve` runs on: threads that can wait, sockets, the clock, and standard error.
 pub trait ServeRuntime: Threads
@@ -67,21 +70,6 @@ impl<'a, Rt: Wait + Net + Clock + Eprint> Work<Rt> for Task<'a> {
     }
 }
 
-fn settings(config: &Config) -> Settings {
-    Settings {
-        tags: config.tags,
-        interval_ms: config.interval_ms,
-        base_ms: config.base_ms,
-        max_ms: config.max_ms,
-        max_percent: config.max_percent,
-        consecutive: config.consecutive,
-        success_hosts: config.success_hosts,
-        request_volume: config.request_volume,
-        factor: config.factor,
-        panic_percent: config.panic_percent,
-    }
-}
-
 // A core that starts from this handover, or a new one. It tells workers by these notices.
 fn core(
     alloc: Global,
@@ -89,15 +77,17 @@ fn core(
     from: Option<Handover>,
     notices: Arc<Notices>,
 ) -> Result<TalliedCore, Ending>
-    requires { AreRingParts config.now.hosts.items config.now.weights.items }
-    ensures { IfOk result (λ core. core.steps ≡ []) }
+    ensures begins { IfOk result (λ core. core.steps ≡ []) }
+    ensures settings { IfOk result (λ core. core.setting.rules.settings ≡ config.now.core) }
+    ensures goes_on { IfOk result (λ core. (h : HandoverFacts) → from ≡ Some h
+        → core.setting.opening ≡ h.detection.state) }
 {
     let Ok(ring) = config.ring(alloc) else {
         return Err(Ending::Memory);
     };
     let made = match from {
-        None => CountingCore::new(alloc, ring, settings(config)),
-        Some(from) => CountingCore::new_from(alloc, ring, settings(config), from),
+        None => CountingCore::new(alloc, ring, config.core),
+        Some(from) => CountingCore::new_from(alloc, ring, config.core, from),
     };
     let Ok(core) = made else {
         return Err(Ending::Memory);
@@ -108,34 +98,17 @@ fn core(
     }
 }
 
-// Takes a seat at the gate; ends with `Spent` where it has no ticket left.
-fn seat<'a, R: Wait>(
-    rt: &R,
-    gate: &'a Gate<TalliedCore>,
-    spare: Spare<TalliedCore>,
-) -> Result<Seated<'a, TalliedCore>, Ending>
-    requires { IsSpareOf gate.now spare }
-    ensures { IfOk result (λ seat. steps_of seat ≡ []) }
-{
-    match gate.enrol(rt, spare) {
-        Ok(pass) => Ok(Seated::new(gate, pass)),
-        Err(_) => Err(Ending::Spent),
-    }
-}
-
 // A worker's task, with a seat at the gate.
 fn work_task<'a, R: Wait>(
     rt: &R,
     context: ThreadContext<'a>,
-    gate: &'a Gate<TalliedCore>,
-    spare: Spare<TalliedCore>,
+    seats: Seats<'a>,
     place: Place,
     poll: Poll,
 ) -> Result<Task<'a>, Ending>
-    requires { IsSpareOf gate.now spare }
-    ensures { IfOk result (λ task. place_of task ≡ Some place) }
+    ensures { IfOk result (λ task. (a : Assigned) × (a.place ≡ place) × (assigned_of task ≡ Some a)) }
 {
-    let seat = seat(rt, gate, spare)?;
+    let seat = seats.take(rt)?;
     Ok(Task::Work(WorkerSetup::new(context, place, poll, seat)))
 }
 
@@ -143,42 +116,38 @@ fn work_task<'a, R: Wait>(
 fn sweep_task<'a, R: Wait>(
     rt: &R,
     context: ThreadContext<'a>,
-    gate: &'a Gate<TalliedCore>,
-    spare: Spare<TalliedCore>,
+    seats: Seats<'a>,
     wakers: Vec<Waker>,
 ) -> Result<Task<'a>, Ending>
-    requires { IsSpareOf gate.now spare }
-    ensures { IfOk result (λ task. place_of task ≡ None) }
+    ensures { IfOk result (λ task. assigned_of task ≡ None) }
 {
-    let seat = seat(rt, gate, spare)?;
+    let seat = seats.take(rt)?;
     Ok(Task::Sweep(SweepThread::new(context, seat, wakers)))
 }
 
-// A worker's task for each poll, and the task that sweeps and opens the generation. Each worker has a place of its own among
-// these many workers.
+// A worker's task for each poll, and the task that sweeps and opens the generation. As many workers as there are polls have the
+// places among so many, each its own.
 fn tasks<'a, R: Wait>(
     rt: &R,
     context: ThreadContext<'a>,
-    gate: &'a Gate<TalliedCore>,
-    spare: Spare<TalliedCore>,
-    workers: usize,
+    seats: Seats<'a>,
     polls: Vec<Poll>,
     wakers: Vec<Waker>,
 ) -> Result<Vec<Task<'a>>, Stop>
-    requires { IsSpareOf gate.now spare }
-    ensures { IfOk result (λ tasks. HaveOwnPlaces workers tasks.items) }
+    ensures { IfOk result (λ tasks. HaveOwnPlaces (length polls.items) tasks.items) }
 {
     let mut tasks = Vec::new(context.alloc);
-    let mut spare = spare;
+    let mut seats = seats;
+    let workers = polls.len();
     let mut index = 0usize;
     for poll in polls {
-        let (one, rest) = gate.split(spare);
-        spare = rest;
+        let (one, rest) = seats.split();
+        seats = rest;
         let place = Place { index, workers };
-        tasks.push(work_task(rt, context, gate, one, place, poll)?)?;
+        tasks.push(work_task(rt, context, one, place, poll)?)?;
         index = index.saturating_add(1);
     }
-    tasks.push(sweep_task(rt, context, gate, spare, wakers)?)?;
+    tasks.push(sweep_task(rt, context, seats, wakers)?)?;
     Ok(tasks)
 }
 
@@ -253,9 +222,7 @@ pub fn run_generation<R: ServeRuntime>(
     alloc: Global,
     context: ServerContext<'_>,
     due: Due<Inherited>,
-)
-    requires { AreRingParts context.config.now.hosts.items context.config.now.weights.items }
-{
+) {
     let (server, number) = (context.server, due.number);
     if let Err(stop) = open_and_run(rt, alloc, context, due) {
         if server.has_opened(number) {
@@ -266,16 +233,14 @@ pub fn run_generation<R: ServeRuntime>(
     }
 }
 
-// Opens the generation and runs its threads. Ends with `Memory` or `Socket` if it could not be opened; it was then never the
-// newest.
+// Opens the generation and runs its threads. Ends with `Memory`, `Socket` or `Spent` if it could not be opened; it was then
+// never the newest.
 fn open_and_run<R: ServeRuntime>(
     rt: &R,
     alloc: Global,
     context: ServerContext<'_>,
     due: Due<Inherited>,
-) -> Result<(), Stop>
-    requires { AreRingParts context.config.now.hosts.items context.config.now.weights.items }
-{
+) -> Result<(), Stop> {
     let ServerContext {
         server,
         config,
@@ -321,25 +286,30 @@ fn run_at_gate<R: ServeRuntime>(
     let Ok(pass) = gate.enrol(rt, own) else {
         return Err(Stop::from(Ending::Spent));
     };
-    run_threads(rt, context, &gate, spare, polls, wakers)?;
-    if let Some(core) = gate.close(pass) {
+    run_threads(rt, context, Seats::new(&gate, spare), polls, wakers)?;
+    if let Some(core) = close_gate(gate, pass) {
         report_end(rt, context.generation, core);
     }
     Ok(())
 }
 
+// Ends the gate by a pass that has seen nothing. No step of the whole journal is of that pass.
+fn close_gate(gate: Gate<TalliedCore>, pass: Pass<TalliedCore>) -> Option<TalliedCore>
+    requires own { IsPassOf gate pass }
+    requires idle { pass.known.seen ≡ [] }
+    ensures { IfSome result (λ core. steps_of pass.number (journal_of core) ≡ []) }
+{
+    gate.close(pass)
+}
+
 fn run_threads<'a, R: ServeRuntime>(
     rt: &R,
     context: ThreadContext<'a>,
-    gate: &'a Gate<TalliedCore>,
-    spare: Spare<TalliedCore>,
+    seats: Seats<'a>,
     polls: Vec<Poll>,
     wakers: Vec<Waker>,
-) -> Result<(), Stop>
-    requires { IsSpareOf gate.now spare }
-{
-    let workers = context.generation.server().workers();
-    let tasks = tasks(rt, context, gate, spare, workers, polls, wakers)?;
+) -> Result<(), Stop> {
+    let tasks = tasks(rt, context, seats, polls, wakers)?;
     if run_all(rt, context.alloc, tasks).is_err() || !context.generation.has_begun() {
         return Err(Stop::from(Ending::Memory));
     }

@@ -1,4 +1,5 @@
 //! What the threads of one generation share beside the gate.
+ghost use Rattle.std.specs.Prelude.{◌≤◌, ◌*◌};
 
 use crate::server::Server;
 use crossbeam_utils::CachePadded;
@@ -7,7 +8,7 @@ use limits::{MAX_PARTS_AT_ONCE, MAX_START_MS};
 use mio::{Registry, Waker};
 use proxy_config::Config;
 use proxy_connections::Round;
-use proxy_generations::{Marks, Phase};
+use proxy_generations::{Marks, Mode, Phase};
 use proxy_notices::Notices;
 use std::alloc::Global;
 use std::rt::Clock;
@@ -23,7 +24,7 @@ const STARTING: u8 = 0;
 const BEGUN: u8 = 1;
 
 // It never begins: threads were missing, or had no memory.
-const GIVEN_UP: u8 = 2;
+const ABANDONED: u8 = 2;
 
 /// What each thread of a generation gets beside its seat at the gate.
 #[derive(Clone, Copy, Drop)]
@@ -32,15 +33,6 @@ pub(crate) struct ThreadContext<'a> {
     pub(crate) generation: &'a GenerationState<'a>,
     pub(crate) config: &'a Config,
     pub(crate) marks: Marks,
-}
-
-/// What a worker does in all of its rounds from some moment on.
-#[derive(Clone, Copy, Drop)]
-pub(crate) struct Mode {
-    /// Whether the hosts' waiting parts are given up.
-    pub(crate) gives_up: bool,
-    /// Whether the server drains: inputs end behind what has come.
-    pub(crate) ends_inputs: bool,
 }
 
 /// How a worker is woken, and whether it waits.
@@ -61,12 +53,14 @@ pub(crate) struct GenerationState<'a> {
     // What the core's turns tell the workers.
     notices: Arc<Notices>,
     come: AtomicU64,
-    // STARTING, BEGUN or GIVEN_UP.
+    // STARTING, BEGUN or ABANDONED.
     start: AtomicU8,
     // The number of its workers that may still take in commands.
     taking: AtomicU64,
     // Whether a worker has seen that it is to stop.
     is_stopped: AtomicBool,
+    // By `parts_per_worker`.
+    most_parts: u64,
     /// The room in its journal.
     pub(crate) room: JournalRoom,
 }
@@ -82,6 +76,7 @@ impl Drop for GenerationState<'_> {
             start: _,
             taking: _,
             is_stopped: _,
+            most_parts: _,
             room: _,
         } = self;
     }
@@ -131,6 +126,7 @@ impl<'a> GenerationState<'a> {
             start: AtomicU8::new(STARTING),
             taking: AtomicU64::new(count),
             is_stopped: AtomicBool::new(false),
+            most_parts: parts_per_worker(count),
             room: JournalRoom::new(count, average),
         }
     }
@@ -165,13 +161,13 @@ impl<'a> GenerationState<'a> {
             }
             thread::sleep(rt, Duration::from_millis(1));
         }
-        self.give_up();
+        self.abandon_start();
         self.has_begun()
     }
 
     /// Keeps the generation from beginning, unless it has begun.
-    pub(crate) fn give_up(&self) {
-        self.decide(GIVEN_UP);
+    pub(crate) fn abandon_start(&self) {
+        self.decide(ABANDONED);
     }
 
     fn decide(&self, start: u8) {
@@ -184,12 +180,7 @@ impl<'a> GenerationState<'a> {
         self.start.load(Ordering::SeqCst) == BEGUN
     }
 
-    /// Whether it is the newest open generation, or was.
-    pub(crate) fn has_opened(&self) -> bool {
-        self.server.has_opened(self.number)
-    }
-
-    /// Counts a worker that takes in no further command, once it has opened. Each calls it once.
+    /// Counts a worker that takes in no further command. Each calls it once.
     pub(crate) fn stop_taking(&self) {
         self.taking.fetch_sub(1, Ordering::SeqCst);
     }
@@ -197,7 +188,7 @@ impl<'a> GenerationState<'a> {
     /// Whether no worker here takes in a further command and a newer generation is open: no further part comes for any
     /// host.
     pub(crate) fn takes_nothing(&self) -> bool {
-        self.taking.load(Ordering::SeqCst) == 0 && self.server.phase(self.number) != Phase::Serving
+        self.taking.load(Ordering::SeqCst) == 0 && !self.phase().may_accept()
     }
 
     pub(crate) fn worker(&self, index: usize) -> Option<&WorkerStatus> {
@@ -207,14 +198,19 @@ impl<'a> GenerationState<'a> {
         }
     }
 
-    /// As `Server::phase`, but `Draining` once the room accepts no further commands, and `Stopped` once it was: a worker that
-    /// stops counts on the others to do so, also where the generation is in nobody's way any more. Sockets wait in the queues
-    /// while it takes in nothing and no newer generation is open.
+    /// What the generation is to do: `Server::phase`.
     pub(crate) fn phase(&self) -> Phase {
+        self.server.phase(self.number)
+    }
+
+    /// What its workers are to do: as `phase`, but `Draining` once the room accepts no further commands, and `Stopped` once it
+    /// was: a worker that stops counts on the others to do so, also where the generation is in nobody's way any more. Sockets
+    /// wait in the queues while it takes in nothing and no newer generation is open.
+    pub(crate) fn worker_phase(&self) -> Phase {
         if self.is_stopped.load(Ordering::SeqCst) {
             return Phase::Stopped;
         }
-        match self.server.phase(self.number) {
+        match self.phase() {
             Phase::Serving if self.room.is_full() => Phase::Draining,
             Phase::Stopped => {
                 self.is_stopped.store(true, Ordering::SeqCst);
@@ -226,17 +222,7 @@ impl<'a> GenerationState<'a> {
 
     /// Whether no connection is open and none will be: reads the phase before the count.
     pub(crate) fn is_drained(&self) -> bool {
-        self.server.phase(self.number) != Phase::Serving && !self.room.has_connections()
-    }
-
-    // The most parts that one worker may let a client queue before it looks at its own.
-    fn parts_per_worker(&self) -> u64 {
-        let workers = self.workers.len() as u64;
-        if workers == 0 {
-            MAX_PARTS_AT_ONCE
-        } else {
-            MAX_PARTS_AT_ONCE / workers
-        }
+        !self.phase().may_accept() && !self.room.has_connections()
     }
 
     /// A round at this moment of the worker whose sockets are registered here.
@@ -246,7 +232,7 @@ impl<'a> GenerationState<'a> {
             notices: self.notices(),
             registry,
             now,
-            most_parts: self.parts_per_worker(),
+            most_parts: self.most_parts,
             gives_up: mode.gives_up,
             ends_inputs: mode.ends_inputs,
             carries_over: self.server.runs(),
@@ -285,5 +271,17 @@ impl<'a> GenerationState<'a> {
                 worker.wake();
             }
         }
+    }
+}
+
+// The most parts that each of these many workers may let a client queue before it looks at its own hosts.
+fn parts_per_worker(workers: u64) -> u64
+    ensures most { result * workers ≤ MAX_PARTS_AT_ONCE }
+    ensures some { workers ≤ MAX_PARTS_AT_ONCE → 1 ≤ result }
+{
+    if workers == 0 {
+        MAX_PARTS_AT_ONCE
+    } else {
+        MAX_PARTS_AT_ONCE / workers
     }
 }

@@ -1,13 +1,14 @@
 //! The generations of `serve`, each with the threads that make its rounds.
 //!
 //! A generation is a journal with its gate. The workers make rounds: each steps the clients and hosts of its
-//! `WorkerConnections`, which make turns at the gate. One more thread sweeps, and asks for the next generation in time. Old
-//! sockets follow to that once their accepted commands are answered. It stands on `proxy_connections`, on `proxy_server`, which all generations share, and on `engine_work`, `sweeper` and
-//! `ticket_gate`. Begin with `run_generation` in `generation.rt`, then `Worker::make_round` in `worker.rt`.
+//! `WorkerConnections`, which make turns at the gate. One more thread sweeps, and asks for the next generation in time.
+//! It stands on `proxy_connections`, `proxy_server`, `engine_work`, `sweeper` and `ticket_gate`. Begin with
+//! `run_generation` in `generation.rt`, then `Worker::make_round` in `worker.rt`.
 #![tactic(auto)]
 
 mod generation;
 mod generation_state;
+mod seats;
 mod server;
 mod sweeping;
 mod worker;

@@ -1,4 +1,6 @@
 //! The sweeping thread: sweeps when due, and watches hosts and journal.
+ghost use Rattle.std.specs.Prelude.{◌≡◌, []};
+ghost use Rattle.proxy_connections.specs.WorkerConnections.{steps_of};
 
 use crate::generation_state::{GenerationState, ThreadContext};
 use journal_room::MeteredTurns;
@@ -6,10 +8,11 @@ use mio::Waker;
 use proxy_config::Config;
 use proxy_core::Handover;
 use proxy_exit_status::Ending;
-use proxy_generations::{Marks, Phase};
+use proxy_generations::{At, Look, Marks, Phase};
 use proxy_serve_core::Refusals;
 use proxy_server::{Inherited, Level, Log, Stop, now};
 use proxy_stats::{Sight, TalliedCore};
+use std::marker::Model;
 use std::net::SocketAddr;
 use std::rt::Clock;
 use std::sync::Wait;
@@ -19,11 +22,12 @@ use sweeper::{SweepRefusal, sweep_once};
 use ticket_gate::Seated;
 
 // The milliseconds between two looks of the generation that serves, and of one that drains.
-const PAUSE_MS: u64 = 5;
+const SERVING_PAUSE_MS: u64 = 5;
 
 const DRAINING_PAUSE_MS: u64 = 20;
 
-/// Sweeps, logs which hosts are ejected and return, and asks for the next generation in time.
+/// Sweeps, logs which hosts are ejected and return, and asks for the next generation in time. At all times none of its pass's
+/// steps is of a host.
 pub(crate) struct SweepThread<'a> {
     turns: MeteredTurns<Seated<'a, TalliedCore>>,
     generation: &'a GenerationState<'a>,
@@ -50,12 +54,27 @@ impl Drop for SweepThread<'_> {
     }
 }
 
+impl<'a> Model for SweepThread<'a> {
+    ghost use Rattle.std.specs.Prelude.{ℕ};
+    ghost use Rattle.proxy_connections.specs.Places.{HasNoHostStep};
+    ghost use Rattle.proxy_connections.specs.WorkerConnections.{steps_of};
+
+    ghost Value = { ℕ };
+
+    ghost view = { λ s. s.turns.turns.pass.number };
+
+    ghost invariant = { λ s. HasNoHostStep (steps_of s.turns.turns) };
+}
+
 impl<'a> SweepThread<'a> {
     pub(crate) fn new(
         context: ThreadContext<'a>,
         seat: Seated<'a, TalliedCore>,
         wakers: Vec<Waker>,
-    ) -> SweepThread<'a> {
+    ) -> SweepThread<'a>
+        requires { steps_of seat ≡ [] }
+        ensures { result ≡ seat.entry.pass.number }
+    {
         let ThreadContext {
             alloc: _,
             generation,
@@ -84,6 +103,14 @@ impl<'a> SweepThread<'a> {
         }
     }
 
+    // The generation at this moment.
+    fn at(&self, now: u64) -> At {
+        At {
+            number: self.generation.number(),
+            now,
+        }
+    }
+
     // The operator's pages show what the newest open generation recorded last, so it looks before it opens.
     fn open_and_sweep<R: Wait + Clock + Eprint>(&mut self, rt: &R) -> Result<(), Stop> {
         self.sight(rt)?;
@@ -95,9 +122,7 @@ impl<'a> SweepThread<'a> {
     fn open<R: Wait + Clock>(&mut self, rt: &R) {
         let alloc = *self.wakers.allocator();
         let wakers = mem::replace(&mut self.wakers, Vec::new(alloc));
-        self.generation
-            .server()
-            .open(rt, self.generation.number(), now(rt), wakers);
+        self.generation.server().open(rt, self.at(now(rt)), wakers);
     }
 
     fn sweep_on<R: Wait + Clock + Eprint>(&mut self, rt: &R) -> Result<(), Stop> {
@@ -105,7 +130,7 @@ impl<'a> SweepThread<'a> {
             if self.ends(rt) {
                 return Ok(());
             }
-            let phase = self.generation.server().phase(self.generation.number());
+            let phase = self.generation.phase();
             let moment = now(rt);
             if phase != Phase::Stopped {
                 self.sweep_if_due(rt, moment)?;
@@ -127,9 +152,9 @@ impl<'a> SweepThread<'a> {
     }
 
     fn sweep_if_due<R: Wait>(&mut self, rt: &R, moment: u64) -> Result<(), Stop> {
-        let (server, number) = (self.generation.server(), self.generation.number());
-        if server.is_sweep_due(rt, number, moment) && self.sweep(rt, moment)? {
-            server.swept(rt, number, moment);
+        let (server, at) = (self.generation.server(), self.at(moment));
+        if server.is_sweep_due(rt, at) && self.sweep(rt, moment)? {
+            server.swept(rt, at);
         }
         Ok(())
     }
@@ -189,26 +214,27 @@ impl<'a> SweepThread<'a> {
     // Reports that hosts have answered since the last look.
     fn report_progress<R: Wait>(&mut self, rt: &R, answered: u64, moment: u64) {
         if mem::replace(&mut self.answered, answered) != answered {
-            let number = self.generation.number();
-            self.generation.server().progressed(rt, number, moment);
+            let at = self.at(moment);
+            self.generation.server().progressed(rt, at);
         }
     }
 
-    // Reports a journal that is nearly full, and one that has reached its marks or takes in nothing more. Owed steps count
-    // as steps.
+    // Reports a journal that is nearly full, and one that has reached its marks or takes in nothing more.
     fn report_marks<R: Wait>(&self, rt: &R, handover: Handover, moment: u64) {
-        let (server, number) = (self.generation.server(), self.generation.number());
+        let (server, at) = (self.generation.server(), self.at(moment));
         let room = &self.generation.room;
-        let steps = handover.steps().max(room.spent(rt));
-        let bytes = handover.bytes();
-        let is_full = self.marks.are_reached(steps, bytes) || room.is_full();
-        if !is_full && !self.marks.are_near(steps, bytes) {
-            return;
+        let report = self.marks.report(Look {
+            made: handover.steps(),
+            spent: room.spent(rt),
+            bytes: handover.bytes(),
+            is_full: room.is_full(),
+        });
+        if report.near {
+            server.near(rt, at);
         }
-        server.near(rt, number, moment);
-        if is_full {
+        if report.full {
             let average = room.average(rt);
-            server.full(rt, number, moment, Inherited { handover, average });
+            server.full(rt, at, Inherited { handover, average });
         }
     }
 
@@ -231,8 +257,8 @@ impl<'a> SweepThread<'a> {
 
 fn pause(phase: Phase) -> u64 {
     match phase {
-        Phase::Serving => PAUSE_MS,
-        Phase::Draining | Phase::GivingUp | Phase::Stopped => DRAINING_PAUSE_MS,
+        Phase::Serving => SERVING_PAUSE_MS,
+        Phase::Unopened | Phase::Draining | Phase::GivingUp | Phase::Stopped => DRAINING_PAUSE_MS,
     }
 }
 

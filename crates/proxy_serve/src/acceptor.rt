@@ -1,6 +1,7 @@
 //! The thread that accepts sockets and obeys signals.
 
 use crate::signals::Signals;
+use fresh_stream::FreshStream;
 use mio::net::TcpListener;
 use mio::{Events, Interest, Poll, Token, Waker};
 use proxy_config::Config;
@@ -24,7 +25,7 @@ const WAKER: Token = Token(1);
 // The most sockets accepted at once.
 const MAX_TAKEN: u32 = 1_024;
 
-// The accepting thread looks for work after this many milliseconds at the latest.
+// The most milliseconds until it looks for work.
 const PAUSE_MS: u64 = 10;
 
 // Linux's errors for want of room for a further socket: no memory, no file number in the system or in the process, and
@@ -127,14 +128,14 @@ impl Acceptor {
         Ok(())
     }
 
-    // Accepts new connections, and gives them to the workers in turn. One without room is closed.
+    // Gives new connections to the workers in turn. One without room is closed.
     fn accept_all<R: Wait>(&mut self, rt: &R, server: &Server) -> Result<(), Stop> {
         let Some(listener) = &self.listener else {
             return Ok(());
         };
         for _ in 0..MAX_TAKEN {
-            match listener.accept() {
-                Ok((stream, _)) => {
+            match FreshStream::accept(listener) {
+                Ok(stream) => {
                     if server.admit(rt) {
                         server.push(rt, self.round_robin.take(), stream);
                     }

@@ -1,12 +1,12 @@
 //! Serves clients on sockets, before real hosts, with many threads.
 //!
-//! One thread accepts sockets and gives them to the workers in turn. It runs one generation after another, each in a
+//! One thread accepts sockets and gives them to the workers in turn. It takes each generation that is due, and runs it in a
 //! thread of its own: when a journal is nearly full, the next generation opens with the state of outlier detection.
 //!
 //! ```text
 //! Acceptor           AdminListener          the threads of a generation, each with a pass of its own:
 //!   │ admit, push      │ snapshot              Worker ..           SweepThread
-//!   │ take_due         │ drain, quit             │ pop, carry        │ open, looked, near, full, drained
+//!   │ drain, quit      │ drain, quit             │ pop, carry        │ open, looked, near, full, drained
 //!   ▼                  ▼                         ▼                   ▼
 //! Server: AcceptQueue of each worker, Sockets, Generations and Board, Stats, EjectionLog
 //!                                                │                   │

@@ -1,5 +1,4 @@
 //! `serve`, from its listener to its last line.
-ghost use Rattle.proxy_config.specs.RingParts.{AreRingParts};
 
 use crate::acceptor::Acceptor;
 use crate::generation_threads::GenerationThreads;
@@ -27,7 +26,7 @@ const MAX_EVENTS: usize = 4;
 pub struct Options {
     /// The operator's address; `None`: none.
     pub admin: Option<Admin>,
-    /// The file that shows pending signals, `/proc/self/status`; `None`: signals aren't heeded.
+    /// `/proc/self/status`, which shows pending signals; `None`: signals aren't heeded.
     pub status: Option<File>,
     /// The number of closed connections after which it ends; 0 is never.
     pub connections: u64,
@@ -57,12 +56,10 @@ pub fn serve<R: ServeRuntime, W: Write>(
     config: Config,
     options: Options,
     output: &mut W,
-) -> Result<(), Stop>
-    requires { AreRingParts config.hosts.items config.weights.items }
-{
-    let served = run_server(rt, alloc, listener, &config, options, output);
+) -> Result<(), Stop> {
+    let served = run_server(rt, alloc, listener, &config, options);
     drop(config);
-    served
+    write_counts(&served?, output)
 }
 
 // Opens the operator's end, if an address is given.
@@ -77,17 +74,14 @@ fn open_admin<R: Net>(
     }
 }
 
-// Serves by settings that outlive all threads; `serve` drops them.
-fn run_server<R: ServeRuntime, W: Write>(
+// Serves by settings that outlive all threads; `serve` drops them. Returns the counts of the whole run.
+fn run_server<R: ServeRuntime>(
     rt: &R,
     alloc: Global,
     listener: TcpListener,
     config: &Config,
     options: Options,
-    output: &mut W,
-) -> Result<(), Stop>
-    requires { AreRingParts config.now.hosts.items config.now.weights.items }
-{
+) -> Result<Counts, Stop> {
     let Options {
         admin,
         status,
@@ -105,7 +99,10 @@ fn run_server<R: ServeRuntime, W: Write>(
         marks,
     };
     run_generations(rt, alloc, acceptor, admin, context)?;
-    finish(rt, &server, output)
+    match server.stop_reason(rt) {
+        Some(stop) => Err(stop),
+        None => Ok(server.counts(rt)),
+    }
 }
 
 /// Like `serve`, but returns only the ending; without an operator's address, and ignoring signals.
@@ -117,9 +114,7 @@ pub fn serve_run<R: ServeRuntime, W: Write>(
     connections: u64,
     marks: Marks,
     output: &mut W,
-) -> Result<(), Ending>
-    requires { AreRingParts config.hosts.items config.weights.items }
-{
+) -> Result<(), Ending> {
     let options = Options {
         admin: None,
         status: None,
@@ -145,58 +140,36 @@ fn run_generations<R: ServeRuntime>(
     mut acceptor: Acceptor,
     admin: Option<AdminListener>,
     context: ServerContext<'_>,
-) -> Result<(), Stop>
-    requires { AreRingParts context.config.now.hosts.items context.config.now.weights.items }
-{
+) -> Result<(), Stop> {
     let server = context.server;
     let mut events = Events::with_capacity(alloc, MAX_EVENTS)?;
     let mut threads = GenerationThreads::new(alloc)?;
-    thread::scope(
-        thread::scope_env(),
-        rt,
-        |scope|
-            requires { AreRingParts context.config.now.hosts.items
-                context.config.now.weights.items }
-        {
-            if let Some(admin) = admin {
-                if scope.spawn(move || run_admin(rt, admin, context)).is_err() {
-                    server.end(rt, Stop::from(Ending::Memory));
+    thread::scope(thread::scope_env(), rt, |scope| {
+        if let Some(admin) = admin {
+            if scope.spawn(move || run_admin(rt, admin, context)).is_err() {
+                server.end(rt, Stop::from(Ending::Memory));
+            }
+        }
+        for _ in rt.forever() {
+            if !server.runs() {
+                break;
+            }
+            if let Some(due) = server.take_due(rt) {
+                let number = due.number;
+                threads.make_room(rt, server);
+                let begun = scope.spawn(move || run_generation(rt, alloc, context, due));
+                match begun {
+                    Ok(handle) => threads.add(rt, number, handle),
+                    Err(_) => server.fail(rt, number, Stop::from(Ending::Memory)),
                 }
             }
-            for _ in rt.forever() {
-                if !server.runs() {
-                    break;
-                }
-                if let Some(due) = server.take_due(rt) {
-                    let number = due.number;
-                    threads.make_room(rt, server);
-                    let begun = scope.spawn(
-                        move ||
-                            requires { AreRingParts context.config.now.hosts.items
-                                context.config.now.weights.items }
-                        { run_generation(rt, alloc, context, due) },
-                    );
-                    match begun {
-                        Ok(handle) => threads.add(rt, number, handle),
-                        Err(_) => server.fail(rt, number, Stop::from(Ending::Memory)),
-                    }
-                }
-                if let Err(stop) = acceptor.run_once(rt, server, &mut events) {
-                    server.end(rt, stop);
-                }
+            if let Err(stop) = acceptor.run_once(rt, server, &mut events) {
+                server.end(rt, stop);
             }
-            threads.join_all(rt);
-        },
-    );
+        }
+        threads.join_all(rt);
+    });
     Ok(())
-}
-
-// Returns the reason of the end, or writes the last line.
-fn finish<R: Wait, W: Write>(rt: &R, server: &Server, output: &mut W) -> Result<(), Stop> {
-    match server.stop_reason(rt) {
-        Some(stop) => Err(stop),
-        None => write_counts(&server.counts(rt), output),
-    }
 }
 
 // Writes the last line: the counts of the whole run.

@@ -3,3 +3,5 @@ pub mod RoundRobin
 pub mod EjectionLog
 pub mod KeySet
 pub mod ReadyClients
+pub mod Signals
+pub mod KeyRange

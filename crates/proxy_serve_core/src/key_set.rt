@@ -73,7 +73,7 @@ impl KeySet {
         }
     }
 
-    /// Bit i of `bits` stands for key 64 `index` + i. False: these are past the capacity, and nothing changes.
+    /// False: the keys are past the capacity, and nothing changes.
     pub(crate) fn insert_word(&mut self, index: usize, bits: u64) -> bool
         ensures fits { IsTrue result ↔ (index < length self.old) }
         ensures adds { OnTrue result (AddsKeysOfWord index bits self.old self.new) }

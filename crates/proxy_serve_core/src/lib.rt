@@ -3,6 +3,7 @@
 #![tactic(auto)]
 
 mod ejection_log;
+mod key_range;
 mod key_set;
 mod ready_clients;
 mod refusals;
@@ -11,6 +12,7 @@ mod signals;
 mod sockets;
 
 pub use ejection_log::EjectionLog;
+pub use key_range::KeyRange;
 pub use ready_clients::ReadyClients;
 pub use refusals::Refusals;
 pub use round_robin::RoundRobin;

@@ -2,10 +2,12 @@
 //! `SigBlk`, as hexadecimal numbers in which signal n is bit n - 1.
 //!
 //! A signal blocked at the start, as by `env --block-signal=TERM`, waits and doesn't end the process.
+ghost use Rattle.std.specs.Prelude.{◌≡◌, ◌↔◌, ◌≤◌, ◌⊎◌, IsTrue};
+ghost use Rattle.proxy_serve_core.specs.Signals.{IsIn, sigint, sigterm};
 
-const INT: u64 = 1 << 1;
+const INT: u32 = 2;
 
-const TERM: u64 = 1 << 14;
+const TERM: u32 = 15;
 
 const WAITING: &[u8] = b"\nShdPnd:\t";
 
@@ -24,19 +26,34 @@ pub enum Asked {
 
 /// What SIGTERM and SIGINT ask of the process with this status. Without these lines nothing is asked.
 pub fn asked_by_signals(status: &[u8]) -> Asked {
-    let waiting = number_behind(status, WAITING) & (INT | TERM);
-    if waiting == INT | TERM {
-        Asked::Quit
-    } else if waiting == 0 {
-        Asked::Nothing
-    } else {
-        Asked::Drain
+    asked_by(number_behind(status, WAITING))
+}
+
+// What these signals ask for.
+fn asked_by(signals: u64) -> Asked
+    ensures nothing { (result ≡ Asked.Nothing)
+        ↔ ((¬ IsIn signals sigint) × (¬ IsIn signals sigterm)) }
+    ensures drain { (result ≡ Asked.Drain) ↔ ((IsIn signals sigint × (¬ IsIn signals sigterm))
+        ⊎ ((¬ IsIn signals sigint) × IsIn signals sigterm)) }
+    ensures quit { (result ≡ Asked.Quit) ↔ (IsIn signals sigint × IsIn signals sigterm) }
+{
+    match (has(signals, INT), has(signals, TERM)) {
+        (false, false) => Asked::Nothing,
+        (true, true) => Asked::Quit,
+        _ => Asked::Drain,
     }
+}
+
+fn has(signals: u64, signal: u32) -> bool
+    requires { (1 ≤ signal) × (signal ≤ 64) }
+    ensures { IsTrue result ↔ IsIn signals signal }
+{
+    signals >> (signal - 1) & 1 == 1
 }
 
 /// Whether SIGTERM would wait for the process with this status instead of ending it.
 pub fn is_term_blocked(status: &[u8]) -> bool {
-    number_behind(status, BLOCKED) & TERM != 0
+    has(number_behind(status, BLOCKED), TERM)
 }
 
 fn number_behind(status: &[u8], name: &[u8]) -> u64 {

@@ -4,7 +4,7 @@ ghost use Rattle.std.specs.Bool.{OnTrue, OnFalse};
 use limits::MAX_SOCKETS;
 use std::marker::Model;
 
-/// The clients' sockets of one run, in all its generations. A socket is open from `accept` to `let_go`, also while it
+/// The clients' sockets of one run, in all its generations. A socket is open from `admit` to `let_go`, also while it
 /// goes over to the next generation. Its connection is closed once, before `let_go`.
 #[derive(Debug, Drop)]
 pub struct Sockets {
@@ -56,7 +56,7 @@ impl Sockets {
 
     /// Counts a new socket. `true`: it is accepted and open. `false`: nothing changes, and it is to be closed, since
     /// `MAX_SOCKETS` are open or none is accepted any more.
-    pub fn accept(&mut self) -> bool
+    pub fn admit(&mut self) -> bool
         ensures taken { IsTrue result ↔ MayOpen self.old }
         ensures counted { OnTrue result (self.new ≡ one_more_open self.old) }
         ensures same { OnFalse result (self.new ≡ self.old) }

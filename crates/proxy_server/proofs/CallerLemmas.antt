@@ -8,7 +8,7 @@ use Rattle.proxy_generations.specs.contracts.lifecycle.Generations as Generation
 use Rattle.proxy_server.specs.contracts.server.AcceptQueue as AcceptQueue
 use Rattle.proxy_server.specs.contracts.server.Server as Server
 use Rattle.proxy_server.specs.contracts.server.Inherited as Inherited
-use Rattle.proxy_server.specs.contracts.stats.Living as Living
+use Rattle.proxy_server.specs.contracts.living.Living as Living
 use Rattle.proxy_server.specs.contracts.stats.Stats as Stats
 use Rattle.proxy_server.specs.contracts.stop.Stop as Stop
 use Rattle.proxy_serve_core.specs.contracts.ejection_log.EjectionLog as EjectionLog

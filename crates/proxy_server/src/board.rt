@@ -1,127 +1,101 @@
-//! The present task of each generation, readable without a lock.
+//! What each generation is to do, readable without a lock. Atomics carry here what `words.rt` and `seen.rt` decide.
 
+use crate::seen::Seen;
+use crate::server::Inherited;
+use crate::words::{NOBODY, Shown, anew, free_place, pack, task_in};
 use limits::MAX_GENERATIONS;
 use proxy_generations::{Generations, Phase};
 use std::alloc::{AllocError, Global};
-use std::sync::atomic::{AtomicU8, AtomicU64, Ordering};
+use std::sync::atomic::{AtomicU64, Ordering};
 
 const NONE: u64 = u64::MAX;
 
-const DRAINING: u8 = 0;
+const MAX_DRAINING: usize = MAX_GENERATIONS - 1;
 
-const GIVING_UP: u8 = 1;
-
-const STOPPED: u8 = 2;
-
-// A generation keeps its slot until it has drained.
-#[derive(Drop)]
-struct Slot {
-    number: AtomicU64,
-    phase: AtomicU8,
-}
-
-impl Slot {
-    fn new() -> Slot {
-        Slot {
-            number: AtomicU64::new(NONE),
-            phase: AtomicU8::new(DRAINING),
-        }
-    }
-
-    fn number(&self) -> u64 {
-        self.number.load(Ordering::SeqCst)
-    }
-
-    // The task before the number: who finds its number finds its task.
-    fn put(&self, number: u64, phase: u8) {
-        self.phase.store(phase, Ordering::SeqCst);
-        self.number.store(number, Ordering::SeqCst);
-    }
-}
-
-/// The newest open generation, and those that drain with their tasks.
+/// The newest open generation, and a word of each that drains, which keeps its place until that has drained.
 #[derive(Drop)]
 pub(crate) struct Board {
     newest: AtomicU64,
-    slots: Vec<Slot>,
+    words: Vec<AtomicU64>,
 }
 
 impl Board {
     pub(crate) fn new(alloc: Global) -> Result<Board, AllocError> {
-        let mut slots = Vec::new(alloc);
-        for _ in 1..MAX_GENERATIONS {
-            slots.push(Slot::new())?;
+        let mut words = Vec::new(alloc);
+        for _ in 0..MAX_DRAINING {
+            words.push(AtomicU64::new(NOBODY))?;
         }
         Ok(Board {
             newest: AtomicU64::new(NONE),
-            slots,
+            words,
         })
     }
 
-    /// A generation that sees that it no longer serves finds its task already here.
-    pub(crate) fn show<H: Drop>(&self, generations: &Generations<H>) {
-        for slot in self.slots.iter() {
-            let number = slot.number();
-            if number != NONE && !generations.drains(number) {
-                slot.put(NONE, DRAINING);
-            }
+    /// Shows what these generations are to do. The newest comes last: one that sees that it serves no longer finds its task.
+    pub(crate) fn show(&self, generations: &Generations<Inherited>) {
+        for word in self.words.iter() {
+            word.store(
+                anew(word.load(Ordering::SeqCst), generations),
+                Ordering::SeqCst,
+            );
         }
-        for index in 1..MAX_GENERATIONS {
-            if let Some(number) = generations.older_at(index - 1) {
-                self.show_older(number, generations.phase(number));
+        for index in 0..MAX_DRAINING {
+            if let Some(number) = generations.older_at(index) {
+                self.show_task(number, generations.task(number));
             }
         }
         let newest = generations.newest().unwrap_or(NONE);
         self.newest.store(newest, Ordering::SeqCst);
     }
 
-    fn show_older(&self, number: u64, phase: Phase) {
-        let phase = match phase {
-            Phase::GivingUp => GIVING_UP,
-            Phase::Stopped => STOPPED,
-            Phase::Serving | Phase::Draining => DRAINING,
-        };
-        if let Some(slot) = self.slot_of(number) {
-            slot.put(number, phase);
-        } else if let Some(slot) = self.slot_of(NONE) {
-            slot.put(number, phase);
+    // (one that is shown already has its task)
+    fn show_task(&self, number: u64, task: Option<Phase>) {
+        let words = self.words();
+        if task_in(&words, number).is_some() {
+            return;
         }
-    }
-
-    fn slot_of(&self, number: u64) -> Option<&Slot> {
-        for slot in self.slots.iter() {
-            if slot.number() == number {
-                return Some(slot);
+        if let (Some(place), Some(task)) = (free_place(&words), task) {
+            if let Some(word) = self.words.get(place) {
+                word.store(pack(Shown { number, task }), Ordering::SeqCst);
             }
         }
-        None
     }
 
-    /// One that isn't open yet is `Draining` here: it has no connection.
+    fn words(&self) -> [u64; MAX_DRAINING] {
+        let mut words = [NOBODY; MAX_DRAINING];
+        for place in 0..MAX_DRAINING {
+            if let Some(word) = self.words.get(place) {
+                words[place] = word.load(Ordering::SeqCst);
+            }
+        }
+        words
+    }
+
+    // The number of the newest open generation.
+    fn newest(&self) -> Option<u64> {
+        match self.newest.load(Ordering::SeqCst) {
+            NONE => None,
+            number => Some(number),
+        }
+    }
+
+    // (the newest is read first, since it is shown last)
+    fn seen(&self, number: u64) -> Seen {
+        let newest = self.newest();
+        if newest == Some(number) {
+            Seen::of_newest(number)
+        } else {
+            Seen::new(number, newest, &self.words())
+        }
+    }
+
+    /// What a generation is to do.
     pub(crate) fn phase(&self, number: u64) -> Phase {
-        let newest = self.newest.load(Ordering::SeqCst);
-        if newest == number {
-            return Phase::Serving;
-        }
-        if newest == NONE || newest < number {
-            return Phase::Draining;
-        }
-        let Some(slot) = self.slot_of(number) else {
-            return Phase::Stopped;
-        };
-        match slot.phase.load(Ordering::SeqCst) {
-            GIVING_UP => Phase::GivingUp,
-            STOPPED => Phase::Stopped,
-            _ => Phase::Draining,
-        }
+        self.seen(number).phase()
     }
 
-    pub(crate) fn has_opened(&self, number: u64) -> bool {
-        let newest = self.newest.load(Ordering::SeqCst);
-        newest != NONE && newest >= number
-    }
-
+    /// Whether the generation is the newest open one, or drains.
     pub(crate) fn has_connections(&self, number: u64) -> bool {
-        self.newest.load(Ordering::SeqCst) == number || self.slot_of(number).is_some()
+        self.seen(number).has_connections()
     }
 }

@@ -1,15 +1,19 @@
 //! What all generations of `serve` share: here locks and wakers bring to the threads what `proxy_generations` and
-//! `proxy_serve_core` decide. It is proved safe and no more. It stands on these two, and on `proxy_admin`,
-//! `proxy_pages` and `proxy_stats`. Begin with `server.rt`.
+//! `proxy_serve_core` decide. Numbers, the board's words and stops have contracts; the rest is proved safe. It stands
+//! on these two, and on `proxy_admin`, `proxy_pages` and `proxy_stats`. Begin with `server.rt`.
 #![tactic(auto)]
 
 mod board;
+mod living;
 mod log;
+mod look_sum;
 mod moment;
 mod operating;
+mod seen;
 mod server;
 mod stats;
 mod stop;
+mod words;
 
 pub use log::{Level, Log};
 pub use moment::now;

@@ -2,12 +2,12 @@ use crate::board::Board;
 use crate::log::{Level, Log};
 use crate::stats::Stats;
 use crate::stop::Stop;
+use fresh_stream::FreshStream;
 use limits::{MAX_FAILURES, MAX_GENERATIONS};
 use mio::Waker;
-use mio::net::TcpStream;
 use proxy_config::Config;
 use proxy_core::Handover;
-use proxy_generations::{Due, Generations, Phase};
+use proxy_generations::{At, Due, Generations, Phase};
 use proxy_histogram::Histogram;
 use proxy_pages::Snapshot;
 use proxy_serve_core::{EjectionLog, Sockets};
@@ -29,7 +29,7 @@ pub struct Inherited {
 // A worker's waiting sockets, and its present waker.
 #[derive(Drop)]
 struct AcceptQueue<C: Drop> {
-    sockets: Mutex<VecDeque<TcpStream>>,
+    sockets: Mutex<VecDeque<FreshStream>>,
     carried: Mutex<VecDeque<C>>,
     waker: Mutex<Option<Waker>>,
 }
@@ -81,7 +81,7 @@ impl<C: Drop> Server<C> {
         log: Log,
     ) -> Result<Server<C>, Stop> {
         let mut queues = Vec::new(alloc);
-        let interval_ms = u64::from(config.interval_ms);
+        let interval_ms = u64::from(config.core.interval_ms);
         for _ in 0..config.workers {
             queues.push(AcceptQueue {
                 sockets: Mutex::new(VecDeque::new(alloc)),
@@ -122,7 +122,7 @@ impl<C: Drop> Server<C> {
 
     /// Counts an accepted socket. False: it is to be closed.
     pub fn admit<R: Wait>(&self, rt: &R) -> bool {
-        self.sockets.lock(rt).accept()
+        self.sockets.lock(rt).admit()
     }
 
     // Ends the server if it waited for nothing else.
@@ -186,7 +186,7 @@ impl<C: Drop> Server<C> {
     }
 
     /// Queues a socket and wakes its worker. Without memory the socket is closed.
-    pub fn push<R: Wait>(&self, rt: &R, index: usize, stream: TcpStream) {
+    pub fn push<R: Wait>(&self, rt: &R, index: usize, stream: FreshStream) {
         let Some(queue) = self.queues.get(index) else {
             return self.count_dropped(rt);
         };
@@ -207,7 +207,7 @@ impl<C: Drop> Server<C> {
     }
 
     /// Takes the socket that waits longest.
-    pub fn pop<R: Wait>(&self, rt: &R, index: usize) -> Option<TcpStream> {
+    pub fn pop<R: Wait>(&self, rt: &R, index: usize) -> Option<FreshStream> {
         self.queues.get(index)?.sockets.lock(rt).pop_front()
     }
 
@@ -262,9 +262,7 @@ impl<C: Drop> Server<C> {
     /// Ends the server. The first reason stays.
     pub fn end<R: Wait>(&self, rt: &R, stop: Stop) {
         let mut first = self.stop.lock(rt);
-        if self.halt() {
-            *first = Some(stop);
-        }
+        *first = Stop::first(*first, stop, self.halt());
     }
 
     /// Why the server ended, unless it is done.
@@ -272,7 +270,7 @@ impl<C: Drop> Server<C> {
         *self.stop.lock(rt)
     }
 
-    /// The generation's phase; `Stopped` once the server ends.
+    /// What the generation is to do; `Stopped` once the server ends.
     pub fn phase(&self, number: u64) -> Phase {
         if self.runs() {
             self.board.phase(number)
@@ -283,7 +281,7 @@ impl<C: Drop> Server<C> {
 
     /// Whether the generation is or was open.
     pub fn has_opened(&self, number: u64) -> bool {
-        self.board.has_opened(number)
+        self.board.phase(number) != Phase::Unopened
     }
 
     /// Whether the generation is the newest open one or drains.
@@ -304,9 +302,9 @@ impl<C: Drop> Server<C> {
     }
 
     /// The generation opens at this moment, and the wakers wake its workers.
-    pub fn open<R: Wait>(&self, rt: &R, number: u64, now: u64, wakers: Vec<Waker>) {
+    pub fn open<R: Wait>(&self, rt: &R, at: At, wakers: Vec<Waker>) {
         let mut generations = self.generations.lock(rt);
-        generations.opened(number, now);
+        generations.opened(at);
         self.publish(generations);
         self.stats.lock(rt).opened();
         for (queue, waker) in self.queues.iter().zip(wakers) {
@@ -324,22 +322,22 @@ impl<C: Drop> Server<C> {
     }
 
     /// As [`Generations::progressed`].
-    pub fn progressed<R: Wait>(&self, rt: &R, number: u64, now: u64) {
-        self.generations.lock(rt).progressed(number, now);
+    pub fn progressed<R: Wait>(&self, rt: &R, at: At) {
+        self.generations.lock(rt).progressed(at);
     }
 
     /// As [`Generations::near`].
-    pub fn near<R: Wait>(&self, rt: &R, number: u64, now: u64) {
+    pub fn near<R: Wait>(&self, rt: &R, at: At) {
         let mut generations = self.generations.lock(rt);
-        generations.near(number, now);
+        generations.near(at);
         self.board.show(&generations);
     }
 
     /// As [`Generations::full`]. The next one starts from the state of the last call.
-    pub fn full<R: Wait>(&self, rt: &R, number: u64, now: u64, from: Inherited) {
+    pub fn full<R: Wait>(&self, rt: &R, at: At, from: Inherited) {
         let mut generations = self.generations.lock(rt);
-        if let Some(from) = generations.renew(number, from) {
-            generations.full(number, now, from);
+        if let Some(from) = generations.renew(at.number, from) {
+            generations.full(at, from);
         }
         self.publish(generations);
     }
@@ -352,13 +350,13 @@ impl<C: Drop> Server<C> {
     }
 
     /// As [`Generations::is_sweep_due`].
-    pub fn is_sweep_due<R: Wait>(&self, rt: &R, number: u64, now: u64) -> bool {
-        self.generations.lock(rt).is_sweep_due(number, now)
+    pub fn is_sweep_due<R: Wait>(&self, rt: &R, at: At) -> bool {
+        self.generations.lock(rt).is_sweep_due(at)
     }
 
     /// As [`Generations::swept`].
-    pub fn swept<R: Wait>(&self, rt: &R, number: u64, now: u64) {
-        self.generations.lock(rt).swept(number, now);
+    pub fn swept<R: Wait>(&self, rt: &R, at: At) {
+        self.generations.lock(rt).swept(at);
     }
 
     /// Records the sight of a living generation.

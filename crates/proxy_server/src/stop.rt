@@ -1,3 +1,10 @@
+//! Why the server ended, and with which ending.
+ghost use Rattle.std.specs.Prelude.{◌≡◌, Some, None};
+ghost use Rattle.std.specs.Bool.{OnTrue, OnFalse};
+ghost use Rattle.proxy_exit_status.specs.Ending.{status_of};
+ghost use Rattle.proxy_exit_status.specs.declared.ending.Ending.TheVariants.{Memory, Socket};
+ghost use Rattle.proxy_server.specs.Stop.{of_ending, of_failure};
+
 use proxy_admin::OpenError;
 use proxy_exit_status::Ending;
 use std::alloc::{AllocError, AllocFailed};
@@ -28,7 +35,9 @@ pub struct Stop {
 
 impl Stop {
     /// A socket, a poll or a stream failed.
-    pub fn socket(what: &'static str, error: Error) -> Stop {
+    pub fn socket(what: &'static str, error: Error) -> Stop
+        ensures { result ≡ of_failure (record { what = what.entry; address = None; error = error }) }
+    {
         Stop {
             ending: Ending::Socket,
             failure: Some(Failure {
@@ -40,7 +49,10 @@ impl Stop {
     }
 
     /// A socket with this address failed.
-    pub fn socket_at(what: &'static str, address: SocketAddr, error: Error) -> Stop {
+    pub fn socket_at(what: &'static str, address: SocketAddr, error: Error) -> Stop
+        ensures { result
+            ≡ of_failure (record { what = what.entry; address = Some address; error = error }) }
+    {
         Stop {
             ending: Ending::Socket,
             failure: Some(Failure {
@@ -49,6 +61,21 @@ impl Stop {
                 error,
             }),
         }
+    }
+
+    /// The program's exit status.
+    pub fn status(self) -> u8
+        ensures { result ≡ status_of self.ending }
+    {
+        self.ending.status()
+    }
+
+    /// Why the server ended, after it was told to end for this: this, where it still ran, else as it was.
+    pub(crate) fn first(before: Option<Stop>, this: Stop, did_run: bool) -> Option<Stop>
+        ensures ran { OnTrue did_run (result ≡ Some this) }
+        ensures ended { OnFalse did_run (result ≡ before) }
+    {
+        if did_run { Some(this) } else { before }
     }
 }
 
@@ -73,6 +100,8 @@ impl Display for Stop {
 }
 
 impl From<Ending> for Stop {
+    ghost from_gives = { λ ending s. s ≡ of_ending ending };
+
     fn from(ending: Ending) -> Stop {
         Stop {
             ending,
@@ -82,6 +111,8 @@ impl From<Ending> for Stop {
 }
 
 impl From<OpenError> for Stop {
+    ghost from_gives = { λ error s. s.ending ≡ Socket };
+
     fn from(error: OpenError) -> Stop {
         match error {
             OpenError::NoPoll(error) => Stop::socket("cannot make a poll", error),
@@ -91,12 +122,16 @@ impl From<OpenError> for Stop {
 }
 
 impl From<AllocError> for Stop {
+    ghost from_gives = { λ _ s. s ≡ of_ending Memory };
+
     fn from(_error: AllocError) -> Stop {
         Stop::from(Ending::Memory)
     }
 }
 
 impl<T: Drop> From<AllocFailed<T>> for Stop {
+    ghost from_gives = { λ _ s. s ≡ of_ending Memory };
+
     fn from(_error: AllocFailed<T>) -> Stop {
         Stop::from(Ending::Memory)
     }

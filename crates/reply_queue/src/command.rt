@@ -10,7 +10,6 @@ use splitter::{Join, SplitError};
 use std::alloc::{AllocError, Global};
 use std::marker::Model;
 
-/// A command with the values of its parts that have come.
 #[derive(Drop)]
 pub(crate) struct Command {
     parts: Parts,
@@ -79,7 +78,6 @@ impl Command {
         }
     }
 
-    /// The reply, if it is the value of the only part and has come.
     pub(crate) fn same_reply(&self) -> Option<&Value>
         ensures { option_map tree_of (option_copied result) ≡ same_reply_to self.now }
     {

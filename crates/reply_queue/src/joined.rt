@@ -10,7 +10,6 @@ use std::alloc::{AllocError, Global};
 use std::marker::Model;
 use std::mem;
 
-/// The values of a command's parts that have come, and how they are joined.
 #[derive(Drop)]
 pub(crate) struct Joined {
     how: Join,

@@ -157,8 +157,7 @@ impl Queue {
         Ok(reply)
     }
 
-    /// The result that `pop` would have: the reply to the oldest command, or `None` exactly if there is no command or a
-    /// part of the oldest has no value. It changes nothing.
+    /// The result that `pop` would have. It changes nothing.
     ///
     /// Refused 801 (no memory), only if there is a reply.
     pub fn front(&self) -> Result<Option<Value>, QueueRefusal>
@@ -174,8 +173,7 @@ impl Queue {
     }
 
     /// The reply to the oldest command, if it is the value of the command's only part (`Same`). `None` exactly if there
-    /// is no command, its values are joined otherwise, or its value hasn't come. It shares nothing, and takes no
-    /// memory.
+    /// is no command, its values are joined otherwise, or its value hasn't come. It shares nothing.
     pub fn same_front(&self) -> Option<&Value>
         ensures reply { option_map tree_of (option_copied result)
             ≡ same_front_reply self.now.commands }

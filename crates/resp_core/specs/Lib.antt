@@ -21,4 +21,5 @@ pub mod ValueLimits
 pub mod Command
 pub mod Laws
 pub mod Readable
+pub mod NextValue
 pub mod SpelledCommand

@@ -1,5 +1,5 @@
 -- How far a reader has come in an unfinished value.
-use Rattle.std.specs.Prelude.{◌≡◌, ℕ, ◌-◌, ◌+◌, ◌*◌, ◌≤◌, List, [], ◌++◌, length, take, drop, Option, Some, None, IfSome}
+use Rattle.std.specs.Prelude.{◌≡◌, ℕ, ◌-◌, ◌+◌, ◌*◌, ◌≤◌, List, [], ◌++◌, length, take, drop, Option, Some, None, Result, IfOk, IfSome, IfNone, OnErr}
 use Rattle.resp_core.specs.Tree.{Tree}
 use Rattle.resp_core.specs.Value.{tree_of}
 use Rattle.resp_core.specs.Grammar.{max_depth, max_text}
@@ -13,6 +13,7 @@ use Rattle.resp_core.specs.declared.value.Value.{Value}
 use Rattle.resp_core.specs.declared.head.Next.{Next}
 use Rattle.resp_core.specs.declared.head.Next.TheVariants as nexts
 use Rattle.resp_core.specs.declared.head.Head.TheVariants as heads
+use Rattle.resp_core.specs.declared.head.Found.{Found}
 use Rattle.resp_core.specs.declared.head.Found.TheVariants as founds
 use Rattle.resp_core.specs.declared.partial_value.Halt.{Halt}
 use Rattle.resp_core.specs.declared.partial_value.Halt.TheVariants as halts
@@ -126,3 +127,19 @@ IsShort most p = (held : List ℕ) → Reads most held p → value_at most max_d
 -- they are read no further
 abbrev pub HaltsIn : ℕ → PartialValue → Halt → Type 0
 HaltsIn most p e = (held : List ℕ) → Reads most held p → HaltsAt most held e
+
+-- What the head that is due came to: it announces this, which is read next; or the bytes are less than a value.
+abbrev pub CameTo : ℕ → PartialValue → PartialValue → Option Found → Type 0
+CameTo most p q (Some f) = (q.done ≡ None) × (q.next ≡ nexts.Found f)
+CameTo most p q None = IsShort most p
+
+-- A complete value was put into its list, and each list closed that it completes.
+pub record ClosesLists {E : Type 0} (most : ℕ) (p q : PartialValue) (result : Result (Option Value) E) : Type 0 where
+  pub good : IsGood most q
+  -- the outermost value is complete,
+  pub fresh : IfOk result (λ o. IfSome o (λ _. IsFresh q))
+  pub value : IfOk result (λ o. IfSome o (λ v. LeadsToValue most p q (tree_of v)))
+  -- or more is to be read of it,
+  pub reads : IfOk result (λ o. IfNone o (LeadsTo most p q))
+  -- or there was no memory, and nothing is lost
+  pub err : OnErr result (LeadsTo most p q)

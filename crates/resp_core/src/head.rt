@@ -1,7 +1,8 @@
 //! The head of a value, read a byte at a time: everything before its text, payload or members.
-ghost use Rattle.std.specs.Prelude.{◌≡◌, ◌≤◌, ◌<◌, length, take, drop, IfOk, IfErr, IfSome};
+ghost use Rattle.std.specs.Prelude.{◌≡◌, ◌≤◌, ◌<◌, ℕ, length, take, drop, IfOk, IfErr, IfSome};
 ghost use Rattle.resp_core.specs.ResumedReading.{Steps, DigitSteps, IsNullOf, GoesOn, IsHead, head_at, IsGoodFound, IsGoodHead, IsGoodNext, IsGoodSized, found_of, limit_of, limit_signed, line_tree, signed_value};
 ghost use Rattle.resp_core.specs.Reading.{of_length, of_integer, refused};
+ghost use Rattle.resp_core.specs.Grammar.{max_line};
 ghost use Rattle.resp_core.specs.Value.{tree_of};
 
 use crate::digits::{negated, of_integer, of_length, short_length, step_digits};
@@ -109,17 +110,11 @@ fn step_type(byte: u8, most: u64, left: u32) -> Result<Next, Refusal>
     }
 }
 
-fn step_length(
-    sized: Sized,
-    count: usize,
-    n: u64,
-    byte: u8,
-    most: u64,
-    left: u32,
-) -> Result<Next, Refusal>
-    requires good { IsGoodHead most left (Head.Digits sized count n) }
-    ensures steps { Steps most left (Head.Digits sized count n) byte result }
-    ensures good { IfOk result (λ next. IsGoodNext most left next) }
+fn step_length(sized: Sized, count: usize, n: u64, byte: u8, most: u64) -> Result<Next, Refusal>
+    requires good { (count ≤ 10) × (n ≤ limit_of most sized) }
+    ensures steps { (left : ℕ) → Steps most left (Head.Digits sized count n) byte result }
+    ensures good { (left : ℕ) → IsGoodSized left sized
+        → IfOk result (λ next. IsGoodNext most left next) }
 {
     match step_digits(of_length(sized.limit(most)), count, n, byte)? {
         Some(n) => Ok(Next::Head(Head::Digits {
@@ -133,26 +128,25 @@ fn step_length(
 
 fn step_number(
     is_negative: bool,
-    most_digits: usize,
+    most: usize,
     count: usize,
     n: u64,
     byte: u8,
-    most: u64,
-    left: u32,
 ) -> Result<Next, Refusal>
-    requires good { IsGoodHead most left (Head.Number is_negative most_digits count n) }
-    ensures steps { Steps most left (Head.Number is_negative most_digits count n) byte result }
-    ensures good { IfOk result (λ next. IsGoodNext most left next) }
+    requires good { (most ≤ max_line) × (count ≤ most) × (n ≤ limit_signed is_negative) }
+    ensures steps { (members left : ℕ)
+        → Steps members left (Head.Number is_negative most count n) byte result }
+    ensures good { (members left : ℕ) → IfOk result (λ next. IsGoodNext members left next) }
 {
     let limit = if is_negative {
         i64::MAX as u64 + 1
     } else {
         i64::MAX as u64
     };
-    match step_digits(of_integer(limit, most_digits), count, n, byte)? {
+    match step_digits(of_integer(limit, most), count, n, byte)? {
         Some(n) => Ok(Next::Head(Head::Number {
             is_negative,
-            most: most_digits,
+            most,
             count: count + 1,
             n,
         })),
@@ -182,7 +176,7 @@ fn step_sign(byte: u8, most: u64, left: u32) -> Result<Next, Refusal>
             count: 0,
             n: 0,
         })),
-        _ => step_number(false, MAX_LINE, 0, 0, byte, most, left),
+        _ => step_number(false, MAX_LINE, 0, 0, byte),
     }
 }
 
@@ -208,7 +202,7 @@ pub(crate) fn step(head: Head, byte: u8, most: u64, left: u32) -> Result<Next, R
             if byte == b'-' {
                 Ok(Next::Head(Head::One(sized)))
             } else {
-                step_length(sized, 0, 0, byte, most, left)
+                step_length(sized, 0, 0, byte, most)
             }
         }
         Head::One(sized) => {
@@ -225,14 +219,14 @@ pub(crate) fn step(head: Head, byte: u8, most: u64, left: u32) -> Result<Next, R
                 Err(Refusal::BadLength)
             }
         }
-        Head::Digits { sized, count, n } => step_length(sized, count, n, byte, most, left),
+        Head::Digits { sized, count, n } => step_length(sized, count, n, byte, most),
         Head::Sign => step_sign(byte, most, left),
         Head::Number {
             is_negative,
             most: digits,
             count,
             n,
-        } => step_number(is_negative, digits, count, n, byte, most, left),
+        } => step_number(is_negative, digits, count, n, byte),
         Head::Feed(found) => {
             if byte == b'\n' {
                 Ok(Next::Found(found))

@@ -1,6 +1,6 @@
 //! The state of a reader within an unfinished value.
 ghost use Rattle.std.specs.Prelude.{true, false, ◌≡◌, ◌≢◌, ◌⊎◌, ◌≤◌, ◌<◌, ◌-◌, ◌+◌, ◌++◌, ◌^◌, List, ℕ, [], length, take, drop, Some, None, IfOk, IfErr, IfSome, IfNone, OnOk, OnErr, IsOk};
-ghost use Rattle.resp_core.specs.PartialValue.{Reads, IsGood, IsFresh, LeadsTo, LeadsToValue, IsShort, HaltsIn, Gave, HasStopped, shown_progress, to_do, to_read, with_done};
+ghost use Rattle.resp_core.specs.PartialValue.{Reads, IsGood, IsFresh, LeadsTo, LeadsToValue, IsShort, HaltsIn, CameTo, ClosesLists, Gave, HasStopped, shown_progress, to_do, to_read, with_done};
 ghost use Rattle.resp_core.specs.Word.{IfLast, IfMember, IfMissing};
 ghost use Rattle.resp_core.specs.FirstValue.{IsUnfinished};
 ghost use Rattle.resp_core.specs.Value.{tree_of};
@@ -347,9 +347,7 @@ impl PartialValue {
         ensures good { IsGood most self.new }
         ensures reads { LeadsTo most self.old self.new }
         ensures falls { IfOk result (λ o. IfSome o (λ _. to_read self.new ≤ to_read self.old)) }
-        ensures next { IfOk result (λ o. IfSome o (λ found. (self.new.done ≡ None)
-            × (self.new.next ≡ Next.Found found))) }
-        ensures none { IfOk result (λ o. IfNone o (IsShort most self.old)) }
+        ensures came { IfOk result (λ o. CameTo most self.old self.new o) }
         ensures halts { IfErr result (λ e. HaltsIn most self.old e) }
     {
         match self.next {
@@ -364,9 +362,7 @@ impl PartialValue {
         ensures good { IsGood most self.new }
         ensures reads { LeadsTo most self.old self.new }
         ensures falls { IfOk result (λ o. IfSome o (λ _. to_read self.new < to_read self.old)) }
-        ensures next { IfOk result (λ o. IfSome o (λ found. (self.new.done ≡ None)
-            × (self.new.next ≡ Next.Found found))) }
-        ensures none { IfOk result (λ o. IfNone o (IsShort most self.old)) }
+        ensures came { IfOk result (λ o. CameTo most self.old self.new o) }
         ensures halts { IfErr result (λ e. HaltsIn most self.old e) }
     {
         let left = MAX_DEPTH - self.opens.len() as u32;
@@ -427,18 +423,8 @@ impl PartialValue {
     #[inline(always)]
     fn put_value(&mut self, value: Value) -> Result<Option<Value>, AllocError>
         requires done { self.old.done ≡ None }
-        ensures good { (most : ℕ) → IsGood most (with_done value self.old)
-            → IsGood most self.new }
-        ensures fresh { (most : ℕ) → IsGood most (with_done value self.old)
-            → IfOk result (λ o. IfSome o (λ _. IsFresh self.new)) }
-        ensures value { (most : ℕ) → IsGood most (with_done value self.old)
-            → IfOk result (λ o. IfSome o (λ v.
-            LeadsToValue most (with_done value self.old) self.new (tree_of v))) }
-        ensures reads { (most : ℕ) → IsGood most (with_done value self.old)
-            → IfOk result (λ o. IfNone o
-            (LeadsTo most (with_done value self.old) self.new)) }
-        ensures err { (most : ℕ) → IsGood most (with_done value self.old)
-            → OnErr result (LeadsTo most (with_done value self.old) self.new) }
+        ensures puts { (most : ℕ) → IsGood most (with_done value self.old)
+            → ClosesLists most (with_done value self.old) self.new result }
         ensures none { OnOk result (self.new.done ≡ None) }
         ensures pending { self.new.pending ≡ self.old.pending }
         ensures next { self.new.next ≡ self.old.next }

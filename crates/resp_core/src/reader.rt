@@ -1,11 +1,10 @@
-ghost use Rattle.std.specs.Prelude.{◌≡◌, ◌≢◌, ◌⊎◌, ◌∷◌, ◌++◌, [], Ok, Err, Some, None, OnOk, OnErr, IfOk, IfErr, IfSome, IfNone, IsErrOf, ◌<◌, ◌≤◌, List, ℕ};
+ghost use Rattle.std.specs.Prelude.{◌≡◌, ◌≢◌, ◌⊎◌, ◌++◌, [], Ok, Err, Some, None, OnOk, OnErr, IfOk, IfErr, IfSome, IfNone, IsErrOf, ◌<◌, List, ℕ};
 ghost use Rattle.resp_core.specs.Tree.{Tree};
 ghost use Rattle.resp_core.specs.ReaderState.{Stands, StandsBehind, Unmoved, Leaves, unread_bytes};
-ghost use Rattle.resp_core.specs.Stream.{HasRefusal, HasNoRefusal};
-ghost use Rattle.resp_core.specs.Readable.{IsReadable};
+ghost use Rattle.resp_core.specs.Stream.{HasRefusal};
+ghost use Rattle.resp_core.specs.NextValue.{GivesValue, GivesNone, TellsRefusal};
 ghost use Rattle.resp_core.specs.Offset.{offset_of, number_of};
 ghost use Rattle.resp_core.specs.Value.{tree_of};
-ghost use Rattle.resp_core.specs.Grammar.{max_text};
 ghost use Rattle.resp_core.specs.Command.{command_of};
 
 use crate::error::RespError;
@@ -147,13 +146,8 @@ impl Reader {
     /// `None`: it isn't known to be such a command, nothing has changed, and `next_value` reads on. Refused only for want of
     /// memory: nothing has changed.
     pub fn next_spelled(&mut self) -> Result<Option<SpelledCommand>, AllocError>
-        ensures value { IfOk result (λ o. IfSome o (λ c. (b : List ℕ) (ts : List Tree)
-            → Stands self.old b ts
-            → Stands self.new b (ts ++ command_of c ∷ []))) }
         ensures given { IfOk result
-            (λ o. IfSome o (λ c. IsReadable self.old.most (command_of c))) }
-        ensures falls { IfOk result (λ o. IfSome o
-            (λ _. unread_bytes self.new < unread_bytes self.old)) }
+            (λ o. IfSome o (λ c. GivesValue self.old self.new (command_of c))) }
         ensures none { IfOk result (λ o. IfNone o (self.new ≡ self.old)) }
         ensures err { OnErr result (self.new ≡ self.old) }
         ensures refusal { self.new.refusal ≡ self.old.refusal }
@@ -181,24 +175,11 @@ impl Reader {
     /// before it. Where two of these numbers fit at that byte, the lower one is returned. From then on the reader holds
     /// no bytes, and `feed` and `next_value` return the same refusal.
     pub fn next_value(&mut self) -> Result<Option<Value>, RespError>
-        ensures value { IfOk result (λ o. IfSome o (λ v. (b : List ℕ) (ts : List Tree)
-            → Stands self.old b ts
-            → Stands self.new b (ts ++ tree_of v ∷ []))) }
-        ensures given { IfOk result (λ o. IfSome o (λ v. IsReadable self.old.most (tree_of v))) }
-        ensures falls { IfOk result (λ o. IfSome o
-            (λ _. unread_bytes self.new < unread_bytes self.old)) }
-        ensures none { IfOk result (λ o. IfNone o ((b : List ℕ) (ts : List Tree)
-            → Stands self.old b ts
-            → HasNoRefusal self.old.most b ts)) }
-        ensures rests { IfOk result (λ o. IfNone o ((b : List ℕ) (ts : List Tree)
-            → Stands self.new b ts
-            → HasNoRefusal self.new.most b ts)) }
-        ensures none_same { IfOk result (λ o. IfNone o (Unmoved self.old self.new)) }
-        ensures few { IfOk result (λ o. IfNone o (unread_bytes self.new ≤ max_text)) }
-        ensures refused { IfErr result (λ e. e ≢ RespError.NoMemory → (b : List ℕ) (ts : List Tree)
-            → Stands self.old b ts
-            → Stands self.new b ts × HasRefusal self.old.most b ts (offset_of e) (number_of e)) }
-        ensures told { IfErr result (λ e. e ≢ RespError.NoMemory → self.new.refusal ≡ Some e) }
+        ensures given { IfOk result
+            (λ o. IfSome o (λ v. GivesValue self.old self.new (tree_of v))) }
+        ensures none { IfOk result (λ o. IfNone o (GivesNone self.old self.new)) }
+        ensures refused { IfErr result
+            (λ e. e ≢ RespError.NoMemory → TellsRefusal self.old self.new e) }
         ensures untold { OnOk result (self.new.refusal ≡ None) }
         ensures memory { IsErrOf result RespError.NoMemory → Unmoved self.old self.new }
         ensures stays { IfSome self.old.refusal (λ e. result ≡ Err e) }

@@ -46,6 +46,7 @@ module _ (old mid mid' new : ReadEndState) (rest rest' : Option (List ℕ)) (roo
         left = rw (new_left, ← receives.left) counted;
         readable = record {
           paused = tt;
+          failed = tt;
           awake = λ some why. readable ∙ receives.readable.awake some why;
           closed = closed_stays receives.readable.closed (ap (λ s. s.is_closed) is_new);
         };
@@ -67,6 +68,7 @@ module _ (old mid mid' new : ReadEndState) (rest rest' : Option (List ℕ)) (roo
         left = rw (new_left, ← receives.left) counted;
         readable = record {
           paused = λ pause. readable ∙ receives.readable.paused pause;
+          failed = λ other. readable ∙ receives.readable.failed other;
           awake = tt;
           closed = closed_stays receives.readable.closed (ap (λ s. s.is_closed) is_new);
         };
@@ -91,6 +93,7 @@ module _ (old mid mid' new : ReadEndState) (rest rest' : Option (List ℕ)) (roo
         left = rw (new_left, ← receives.left) counted;
         readable = record {
           paused = tt;
+          failed = tt;
           awake = λ some why. absurd (omega (arith, some));
           closed = closed_stays receives.readable.closed (ap (λ s. s.is_closed) is_new);
         };

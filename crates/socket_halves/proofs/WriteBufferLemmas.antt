@@ -6,7 +6,7 @@ use Rattle.std.proofs.lemmas.List.{drop-drop}
 use Rattle.std.specs.Io.KnownBytes.{Appends, Keeps, WriteAppends}
 use Rattle.std.specs.declared.io.Error.{Error}
 use Rattle.socket_halves.specs.Moved.{moved_bytes}
-use Rattle.socket_halves.specs.WriteBuffer.{WriteBufferState, Accepts, GoesOut, accepted}
+use Rattle.socket_halves.specs.WriteBuffer.{WriteBufferState, Accepts, GoesOut, StaysWritable, accepted}
 
 -- nothing was taken
 pub Appends-none : (a : Option (List ℕ)) → Appends a a []
@@ -82,6 +82,18 @@ pub GoesOut-append : (a b c : WriteBufferState) (bytes : List ℕ) → GoesOut a
 GoesOut-append a b c bytes out is = rw (is, take-length bytes)
     (GoesOut-then a b (record b { buffered = b.buffered ++ bytes }) bytes out
     (record { gave = []; taken = sym (append-nil b.taken); held = Appends-none b.held; left = refl }))
+
+-- a text that is empty with more behind it
+nil_left : (xs ys : List ℕ) → xs ++ ys ≡ [] → xs ≡ []
+nil_left [] ys none = refl
+nil_left (x ∷ xs) ys none = absurd cc
+
+-- a writer may take more, whatever is buffered after
+pub StaysWritable-append : (a b c : WriteBufferState) (bytes : List ℕ) → StaysWritable a b → c ≡ record b { buffered = b.buffered ++ bytes }
+    → StaysWritable a c
+StaysWritable-append a b c bytes stays is writable unbroken none =
+    ap (λ s. s.is_writable) is
+    ∙ stays writable (sym (ap (λ s. s.is_broken) is) ∙ unbroken) (nil_left b.buffered bytes (sym (ap (λ s. s.buffered) is) ∙ none))
 
 -- what was buffered before goes out, and then these bytes are accepted
 pub Accepts-then : (a b c : WriteBufferState) (bytes : List ℕ) (result : Result ℕ Error) → GoesOut a b [] → Accepts b c bytes result

@@ -58,10 +58,11 @@ CountsDown None left result = left ≡ None
 CountsDown (Some k) left (Ok n) = (left ≡ Some (k - n)) ⊎ ((n ≡ 0) × (left ≡ Some 0))
 CountsDown (Some k) left (Err e) = left ≡ Some k
 
--- What an answer leaves for the next read, where the buffer had this much room: nothing after a pause; as much as before after bytes
--- that filled the buffer, or once the peer sends nothing more, since the end is then still to be read
+-- What an answer leaves for the next read, where the buffer had this much room: nothing after a pause; as much as before after another
+-- error, after bytes that filled the buffer, or once the peer sends nothing more, since the end is then still to be read
 pub record LeavesReadable (old new : ReadEndState) (room : ℕ) (result : Result ℕ Error) : Type 0 where
   pub paused : IfErr result (λ e. error_kind e ≡ WouldBlock → new.is_readable ≡ false)
+  pub failed : IfErr result (λ e. error_kind e ≢ WouldBlock → new.is_readable ≡ old.is_readable)
   pub awake : IfOk result (λ n. 0 < n → (n ≡ room) ⊎ (old.is_closed ≡ true) → new.is_readable ≡ old.is_readable)
   pub closed : new.is_closed ≡ old.is_closed
 

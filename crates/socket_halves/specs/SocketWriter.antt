@@ -1,13 +1,13 @@
 -- The writing half of a socket: what its engine gave goes out by the socket, in order.
-use Rattle.std.specs.Prelude.{◌≡◌, ◌⊎◌, ◌≤◌, ◌<◌, ◌*◌, ◌↔◌, max, IsTrue, ℕ, Bool, true, false, List, Option, None, Result, IfOk, IfErr, length, take}
+use Rattle.std.specs.Prelude.{◌≡◌, ◌⊎◌, ◌≤◌, ◌<◌, ◌*◌, ◌↔◌, [], ◌++◌, max, IsTrue, ℕ, Bool, true, false, List, Option, None, Result, IfOk, IfErr, length, take}
 use Rattle.std.specs.IoError.{error_kind}
 use Rattle.std.specs.declared.io.Error.{Error}
 use Rattle.std.specs.declared.io.ErrorKind.TheVariants.{WouldBlock}
 use Rattle.limits.specs.declared.workers.TheConstants.{MAX_BUFFERED}
-use Rattle.proxy_devices.specs.Device.{Counts, WriteState}
+use Rattle.proxy_devices.specs.Device.{Counts, Passed, WriteState}
 use Rattle.proxy_devices.specs.Faulty.{moved_count}
 use Rattle.proxy_devices.specs.declared.tally.IoOutcome.{IoOutcome}
-use Rattle.socket_halves.specs.WriteBuffer.{WriteBufferState, GoesOut, WritesBuffer, accepted, fresh_buffer}
+use Rattle.socket_halves.specs.WriteBuffer.{WriteBufferState, GoesOut, StaysWritable, WritesBuffer, accepted, fresh_buffer}
 
 -- its socket with the buffer; whether the last write took less than it was given, and whether the socket has had room since;
 -- and its counts
@@ -26,9 +26,18 @@ fresh_writer held = record {
   counts = record { failed = 0; paused = 0 };
 }
 
--- what its engine sees of it: all that was accepted, and the counts; what a socket has isn't known
+-- what of the accepted bytes has passed to the socket, which is what is not buffered; and whether a write failed
+abbrev pub passed_of : WriteBufferState → Passed
+passed_of out = record { bytes = out.taken; has_failed = out.is_broken }
+
+-- what has passed is the first of what was accepted, and all of it exactly where nothing is buffered
+abbrev pub PassedIsFirst : Type 0
+PassedIsFirst = (out : WriteBufferState) → (accepted out ≡ (passed_of out).bytes ++ out.buffered)
+    × ((out.buffered ≡ []) ↔ ((passed_of out).bytes ≡ accepted out))
+
+-- what its engine sees of it: all that was accepted, what of it has passed, and the counts; what a socket has isn't known
 abbrev pub engine_writer : SocketWriterState → WriteState
-engine_writer w = record { contents = None; taken = accepted w.output; counts = w.counts }
+engine_writer w = record { contents = None; taken = accepted w.output; passed = passed_of w.output; counts = w.counts }
 
 -- whether a write took less than it was given, and may go on later, by its outcome; of a pause nothing is said
 abbrev pub IsShortBy : IoOutcome → List ℕ → Bool → Type 0
@@ -57,4 +66,5 @@ pub record TellsWrite (old new : SocketWriterState) (bytes : List ℕ) (told : I
   -- after a failed write nothing changes
   pub broken : old.output.is_broken ≡ true → (told ≡ IoOutcome.Failed) × (new.output ≡ old.output)
   pub short : IsShortBy told bytes new.is_short
+  pub whole : told ≡ IoOutcome.Moved (length bytes) → StaysWritable old.output new.output
   pub again : new.is_writable_again ≡ old.is_writable_again

@@ -40,11 +40,16 @@ pub record GoesOut (old new : WriteBufferState) (bytes : List ℕ) : Type 0 wher
 abbrev pub AcceptedGoesOut : Type 0
 AcceptedGoesOut = (old new : WriteBufferState) (bytes : List ℕ) → GoesOut old new bytes → accepted new ≡ accepted old ++ bytes
 
+-- a writer that may take some may take more, unless a write failed or something is left that it didn't take
+abbrev pub StaysWritable : WriteBufferState → WriteBufferState → Type 0
+StaysWritable old new = old.is_writable ≡ true → new.is_broken ≡ false → new.buffered ≡ [] → new.is_writable ≡ true
+
 -- what was buffered goes out, as far as the writer takes it
 pub record WritesOut (old new : WriteBufferState) : Type 0 where
   pub goes_out : GoesOut old new []
   -- nothing is left that may be written
   pub ends : may_write new ≡ false
+  pub whole : StaysWritable old new
   -- after a failed write nothing changes
   pub broken : old.is_broken ≡ true → new ≡ old
 
@@ -62,3 +67,4 @@ pub record WritesBuffer (old new : WriteBufferState) (bytes : List ℕ) (result 
   pub limit : length new.buffered ≤ max (length old.buffered) (2 * MAX_BUFFERED)
   -- after a failed write nothing changes
   pub broken : old.is_broken ≡ true → (new ≡ old) × IsErrAnd result (λ e. error_kind e ≡ BrokenPipe)
+  pub whole : IfOk result (λ n. n ≡ length bytes → StaysWritable old new)

@@ -8,7 +8,7 @@ mod socket_reader;
 mod socket_writer;
 mod write_buffer;
 
-pub use laws::{accepted_goes_out, buffered_is_limited, delivered_is_received};
+pub use laws::{accepted_goes_out, buffered_is_limited, delivered_is_received, passed_is_first};
 pub use read_end::{Discarded, ReadEnd};
 pub use socket_reader::SocketReader;
 pub use socket_writer::SocketWriter;

@@ -1,10 +1,10 @@
-ghost use Rattle.std.specs.Prelude.{◌≡◌, ◌≢◌, ◌⊎◌, true, false, ◌++◌, length, take, min, ◌-◌, ◌^◌, IfOk, IfErr, OnErr, IsErrAnd, Some, None, Ok};
+ghost use Rattle.std.specs.Prelude.{◌≡◌, ◌≢◌, ◌≤◌, ◌+◌, ◌⊎◌, true, false, ◌++◌, length, take, min, ◌-◌, ◌^◌, IfOk, IfErr, OnErr, IsErrAnd, Some, None, Ok};
 ghost use Rattle.std.specs.Io.{ReadsAtMost};
 ghost use Rattle.std.specs.Io.KnownBytes.{IsAtEnd};
 ghost use Rattle.std.specs.IoError.{error_kind};
 ghost use Rattle.socket_halves.specs.ReadEnd.{CountsDown, Discards, EndsByPause, ReadsEnd, Receives, fresh_end};
 
-use limits::MAX_LAST;
+use limits::{MAX_LAST, READ_SIZE};
 use proxy_devices::ByteLog;
 use std::io;
 use std::io::{ErrorKind, Read};
@@ -125,6 +125,8 @@ impl ReadEnd {
             (R.remaining reader.new) (length buffer.old) result buffer.new }
         ensures asks { (self.old.is_readable ≡ false) ⊎ (self.old.left ≡ Some 0)
             → reader.new ≡ reader.old }
+        ensures pauses { self.old.left ≢ None → IfErr result (λ e.
+            (error_kind e ≢ ErrorKind.WouldBlock) × (self.new.is_readable ≡ true)) }
     {
         if self.left == Some(0) {
             return Ok(0);
@@ -142,6 +144,8 @@ impl ReadEnd {
         ensures idle { self.old.is_readable ≡ false
             → IsErrAnd result (λ e. error_kind e ≡ ErrorKind.WouldBlock) }
         ensures asks { self.old.is_readable ≡ false → reader.new ≡ reader.old }
+        ensures awake { IfErr result (λ e. error_kind e ≢ ErrorKind.WouldBlock
+            → self.new.is_readable ≡ true) }
     {
         if self.is_readable {
             self.read_once(reader, buffer)
@@ -184,6 +188,8 @@ impl ReadEnd {
             ⊎ ((result ≡ Ok 0) × EndsByPause self.old self.new)) }
         ensures kept { self.new ≡ record self.old { left = self.new.left } }
         ensures left { CountsDown self.old.left self.new.left result }
+        ensures pauses { self.old.left ≢ None
+            → IfErr result (λ e. error_kind e ≢ ErrorKind.WouldBlock) }
     {
         let Some(left) = self.left else {
             return received;
@@ -211,15 +217,17 @@ impl ReadEnd {
         }
     }
 
-    /// Reads and discards what has come, by at most 64 reads of 16,384 bytes.
+    /// Reads and discards what has come, by at most 64 reads. `Partly`: each of them took some.
     pub fn throw_away<R: Read>(&mut self, reader: &mut R) -> Discarded
         ensures discards { Discards self.old self.new
             (R.remaining reader.old) (R.remaining reader.new) }
         ensures ended { result ≡ Discarded.Ended → IsAtEnd (R.remaining reader.new) }
         ensures paused { result ≡ Discarded.Emptied → self.new.is_readable ≡ false }
+        ensures partly { result ≡ Discarded.Partly
+            → length self.old.received + MAX_THROWN ≤ length self.new.received }
     {
-        let mut piece = [0u8; 16_384];
-        for _ in 0..MAX_THROWN {
+        let mut piece = [0u8; READ_SIZE];
+        for _read in 0..MAX_THROWN {
             match self.read_once(reader, &mut piece) {
                 Ok(0) => return Discarded::Ended,
                 Ok(_) => {}

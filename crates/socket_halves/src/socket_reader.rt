@@ -1,8 +1,10 @@
-ghost use Rattle.std.specs.Prelude.{◌≡◌, ◌≢◌, ◌<◌, ◌-◌, ◌^◌, true, false, length, min, Some, None};
+ghost use Rattle.std.specs.Prelude.{◌≡◌, ◌≢◌, ◌<◌, ◌≤◌, ◌+◌, ◌-◌, ◌^◌, true, false, length, min, IfErr, Some, None};
 ghost use Rattle.std.specs.Io.{ReadsAtMost};
 ghost use Rattle.std.specs.Io.KnownBytes.{ReadConsumes};
+ghost use Rattle.std.specs.IoError.{error_kind};
 ghost use Rattle.proxy_devices.specs.Device.{CountsRead, IsRead};
 ghost use Rattle.socket_halves.specs.ReadEnd.{Discards};
+ghost use Rattle.socket_halves.specs.declared.read_end.TheConstants.{MAX_THROWN};
 ghost use Rattle.socket_halves.specs.SocketReader.{ReadsHalf, TellsRead, engine_reader, fresh_reader};
 
 use crate::read_end::{Discarded, ReadEnd};
@@ -111,6 +113,8 @@ impl<S: Read> SocketReader<S> {
     pub fn throw_away(&mut self) -> Discarded
         ensures discards { Discards self.old.end self.new.end None None }
         ensures paused { result ≡ Discarded.Emptied → self.new.end.is_readable ≡ false }
+        ensures partly { result ≡ Discarded.Partly
+            → length self.old.end.received + MAX_THROWN ≤ length self.new.end.received }
         ensures broken { self.new.is_broken ≡ true }
         ensures counts { self.new.counts ≡ self.old.counts }
     {
@@ -123,6 +127,9 @@ impl<S: Read> SocketReader<S> {
         ensures bound { ReadsAtMost result buffer.new }
         ensures reads { ReadsHalf self.old self.new (length buffer.old) result buffer.new }
         ensures counts { self.new.counts ≡ self.old.counts }
+        ensures pauses { self.old.is_broken ≡ false → self.old.end.left ≢ None
+            → IfErr result (λ e. (error_kind e ≢ ErrorKind.WouldBlock)
+            × (self.new.end.is_readable ≡ true)) }
     {
         if self.is_broken {
             return Err(io::Error::from(ErrorKind::BrokenPipe));
@@ -152,6 +159,9 @@ impl<S: Read> Read for SocketReader<S> {
         ensures bytes { ReadConsumes None None result buffer.new }
         ensures reads { ReadsHalf self.old self.new (length buffer.old) result buffer.new }
         ensures counts { CountsRead result self.old.counts self.new.counts }
+        ensures pauses { self.old.is_broken ≡ false → self.old.end.left ≢ None
+            → IfErr result (λ e. (error_kind e ≢ ErrorKind.WouldBlock)
+            × (self.new.end.is_readable ≡ true)) }
     {
         match self.ask(buffer) {
             Ok(n) => Ok(n),
@@ -172,6 +182,8 @@ impl<S: Read> ReadTally for SocketReader<S> {
         ensures told { IsRead (engine_reader self.old) (engine_reader self.new)
             buffer.new result }
         ensures tells { TellsRead self.old self.new (length buffer.old) result buffer.new }
+        ensures pauses { self.old.is_broken ≡ false → self.old.end.left ≢ None
+            → result ≡ IoOutcome.Idle → self.new.end.is_readable ≡ true }
     {
         match self.ask(buffer) {
             Ok(0) => IoOutcome::End,

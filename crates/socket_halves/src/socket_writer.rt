@@ -4,7 +4,7 @@ ghost use Rattle.std.specs.Io.KnownBytes.{Keeps, WriteAppends};
 ghost use Rattle.std.specs.IoError.{error_kind};
 ghost use Rattle.proxy_devices.specs.Device.{CountsWrite, IsWritten, TakesNone};
 ghost use Rattle.socket_halves.specs.WriteBuffer.{WritesOut, accepted, may_write};
-ghost use Rattle.socket_halves.specs.SocketWriter.{TellsWrite, WritesHalf, engine_writer, fresh_writer};
+ghost use Rattle.socket_halves.specs.SocketWriter.{TellsWrite, WritesHalf, engine_writer, fresh_writer, passed_of};
 
 use crate::write_buffer::WriteBuffer;
 use proxy_devices::{Counter, IoOutcome, Tally, WriteTally};
@@ -146,7 +146,7 @@ impl<S: Write> SocketWriter<S> {
     }
 
     // Not counted.
-    fn accept(&mut self, bytes: &[u8]) -> io::Result<usize>
+    fn buffer(&mut self, bytes: &[u8]) -> io::Result<usize>
         ensures bound { WritesAtMost result bytes.now }
         ensures writes { WritesHalf self.old self.new bytes.now result }
         ensures counts { self.new.counts ≡ self.old.counts }
@@ -179,7 +179,7 @@ impl<S: Write> Write for SocketWriter<S> {
         ensures writes { WritesHalf self.old self.new bytes.now result }
         ensures counts { CountsWrite bytes.now result self.old.counts self.new.counts }
     {
-        match self.accept(bytes) {
+        match self.buffer(bytes) {
             Ok(n) => {
                 if n == 0 && !bytes.is_empty() {
                     self.counter.note_failure();
@@ -205,6 +205,8 @@ impl<S: Write> Write for SocketWriter<S> {
 impl<S: Write> WriteTally for SocketWriter<S> {
     ghost taken = { λ w. accepted w.output };
 
+    ghost passed = { λ w. passed_of w.output };
+
     /// As `write`, with its outcome.
     fn write_told(&mut self, bytes: &[u8]) -> IoOutcome
         requires some { bytes.now ≢ [] }
@@ -212,7 +214,7 @@ impl<S: Write> WriteTally for SocketWriter<S> {
             bytes.now result }
         ensures tells { TellsWrite self.old self.new bytes.now result }
     {
-        match self.accept(bytes) {
+        match self.buffer(bytes) {
             Ok(0) => {
                 self.counter.note_failure();
                 IoOutcome::End

@@ -1,8 +1,8 @@
-ghost use Rattle.std.specs.Prelude.{◌≡◌, ◌≢◌, ◌≤◌, ◌==◌, true, false, [], ◌++◌, length, IfErr, OnOk, OnErr};
+ghost use Rattle.std.specs.Prelude.{◌≡◌, ◌≢◌, ◌≤◌, ◌<◌, ◌==◌, true, false, [], ◌++◌, length, IfOk, IfErr, OnOk, OnErr};
 ghost use Rattle.std.specs.Io.{WritesAtMost};
 ghost use Rattle.std.specs.Io.KnownBytes.{WriteAppends};
 ghost use Rattle.std.specs.IoError.{error_kind};
-ghost use Rattle.socket_halves.specs.WriteBuffer.{Accepts, GoesOut, WritesBuffer, WritesOut, fresh_buffer, may_write};
+ghost use Rattle.socket_halves.specs.WriteBuffer.{Accepts, GoesOut, StaysWritable, WritesBuffer, WritesOut, fresh_buffer, may_write};
 
 use limits::MAX_BUFFERED;
 use proxy_devices::ByteLog;
@@ -31,7 +31,8 @@ pub struct WriteBuffer<W: Write> {
 }
 
 impl<W: Write> Model for WriteBuffer<W> {
-    ghost use Rattle.std.specs.Prelude.{◌≤◌, drop, length};
+    ghost use Rattle.std.specs.Prelude.{◌≤◌, ◌*◌, drop, length};
+    ghost use Rattle.limits.specs.declared.workers.TheConstants.{MAX_BUFFERED};
     ghost use Rattle.socket_halves.specs.WriteBuffer.{WriteBufferState};
 
     ghost Value = { WriteBufferState };
@@ -44,7 +45,8 @@ impl<W: Write> Model for WriteBuffer<W> {
       is_broken = g.is_broken;
     } };
 
-    ghost invariant = { λ g. g.written ≤ length g.bytes.items };
+    ghost invariant = { λ g. (g.written ≤ length g.bytes.items)
+        × (length g.bytes.items ≤ 3 * MAX_BUFFERED) };
 }
 
 fn paused() -> io::Error
@@ -69,7 +71,6 @@ fn is_interrupted(told: &io::Result<usize>) -> bool
     }
 }
 
-// Writes once; again where it is interrupted.
 fn write_once<W: Write>(writer: &mut W, bytes: &[u8]) -> io::Result<usize>
     ensures bound { WritesAtMost result bytes.now }
     ensures bytes { WriteAppends (W.contents writer.old) (W.contents writer.new) result bytes.now }
@@ -180,6 +181,7 @@ impl<W: Write> WriteBuffer<W> {
     fn write_some(&mut self)
         ensures goes_out { GoesOut self.old self.new [] }
         ensures ends { may_write self.new ≡ false }
+        ensures whole { self.old.buffered ≢ [] → StaysWritable self.old self.new }
     {
         let rest = self.bytes.split_at(self.written).1;
         match write_once(&mut self.writer, rest) {
@@ -217,16 +219,6 @@ impl<W: Write> WriteBuffer<W> {
         }
     }
 
-    // Moves unwritten bytes to the front, once many are written.
-    fn close_up(&mut self)
-        ensures { self.new ≡ self.old }
-    {
-        if self.written >= MAX_BUFFERED || self.is_empty() {
-            self.bytes.drain(..self.written);
-            self.written = 0;
-        }
-    }
-
     fn count(&self) -> usize
         ensures { result ≡ length self.now.buffered }
     {
@@ -239,6 +231,7 @@ impl<W: Write> WriteBuffer<W> {
         ensures bound { WritesAtMost result bytes.now }
         ensures accepts { Accepts self.old self.new bytes.now result }
         ensures buffered { self.new.buffered ≡ [] }
+        ensures whole { IfOk result (λ n. n ≡ length bytes.now → self.new.is_writable ≡ true) }
     {
         match write_once(&mut self.writer, bytes) {
             Ok(count) => {
@@ -256,22 +249,29 @@ impl<W: Write> WriteBuffer<W> {
         }
     }
 
+    // Written bytes go first, where there are many or nothing else is there.
     fn append(&mut self, bytes: &[u8]) -> Result<(), AllocError>
+        requires few { length self.old.buffered < MAX_BUFFERED }
+        requires short { length bytes.now < MAX_BUFFERED }
         ensures ok { OnOk result (self.new
             ≡ record self.old { buffered = self.old.buffered ++ bytes.now }) }
         ensures err { OnErr result (self.new ≡ self.old) }
     {
+        if self.written >= MAX_BUFFERED || self.is_empty() {
+            self.bytes.drain(..self.written);
+            self.written = 0;
+        }
         match self.bytes.extend_from_slice(bytes) {
             Ok(()) => Ok(()),
             Err(_) => Err(AllocError),
         }
     }
 
-    // Writes first if this many more bytes are too many.
     fn make_room(&mut self, count: usize)
         ensures goes_out { GoesOut self.old self.new [] }
         ensures full { MAX_BUFFERED ≤ length self.new.buffered → may_write self.new ≡ false }
         ensures broken { self.old.is_broken ≡ true → self.new ≡ self.old }
+        ensures whole { StaysWritable self.old self.new }
     {
         if self.count() >= MAX_BUFFERED || count >= MAX_BUFFERED {
             self.write_gathered();
@@ -298,7 +298,6 @@ impl<W: Write> WriteBuffer<W> {
         if bytes.len() >= MAX_BUFFERED {
             return self.write_long(bytes);
         }
-        self.close_up();
         match self.append(bytes) {
             Ok(()) => Ok(bytes.len()),
             Err(_) => self.write_long(bytes),
@@ -309,6 +308,7 @@ impl<W: Write> WriteBuffer<W> {
         ensures bound { WritesAtMost result bytes.now }
         ensures accepts { Accepts self.old self.new bytes.now result }
         ensures limit { length self.new.buffered ≤ length self.old.buffered }
+        ensures whole { IfOk result (λ n. n ≡ length bytes.now → self.new.is_writable ≡ true) }
     {
         self.write_gathered();
         if self.is_broken {

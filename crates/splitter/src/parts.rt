@@ -42,7 +42,6 @@ pub(crate) fn whole_part<'a>(
     })
 }
 
-/// A part for each word behind the name, which is its key.
 pub(crate) fn key_parts(
     alloc: Global,
     texts: &mut Texts,
@@ -130,7 +129,6 @@ fn single_parts(
     Ok(PartPlans(parts))
 }
 
-/// A SET for each key.
 pub(crate) fn pair_parts(
     alloc: Global,
     texts: &mut Texts,

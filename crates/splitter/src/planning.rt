@@ -69,6 +69,14 @@ pub fn plan_with<'a>(
     }
 }
 
+#[derive(Clone, Copy)]
+struct ReadCommand<'a> {
+    value: &'a Value,
+    // `Request::text_len`.
+    text_len: u64,
+    words: &'a Values,
+}
+
 fn plan_value<'a>(
     alloc: Global,
     texts: &mut Texts,
@@ -79,7 +87,15 @@ fn plan_value<'a>(
     ensures err { IfErr result (λ e. e ≡ SplitError.NoMemory) }
 {
     match value.words() {
-        Some(words) => plan_command(alloc, texts, value, text_len, words),
+        Some(words) => plan_command(
+            alloc,
+            texts,
+            &ReadCommand {
+                value,
+                text_len,
+                words,
+            },
+        ),
         None => Ok(Planned::Other(Plan::Here(
             Local::Invalid,
             Value::Fault(Bytes::from_static(b"invalid request")),
@@ -121,17 +137,16 @@ fn whole_entry(command: &SpelledCommand) -> Option<Entry>
 fn plan_command<'a>(
     alloc: Global,
     texts: &mut Texts,
-    command: &Value,
-    text_len: u64,
-    words: &'a Values,
+    command: &ReadCommand<'a>,
 ) -> Result<Planned<'a>, SplitError>
-    requires words { are_words words.now ≡ true }
-    requires array { IsArrayOf words.now (tree_of command.now) }
-    ensures plan { IfOk result
-        (λ p. planned_in p ≡ plan_by_row (row_named (word (map payload_of words.now) 0))
-        (map payload_of words.now)) }
+    requires words { are_words command.now.words.now ≡ true }
+    requires array { IsArrayOf command.now.words.now (tree_of command.now.value.now) }
+    ensures plan { IfOk result (λ p. planned_in p
+        ≡ plan_by_row (row_named (word (map payload_of command.now.words.now) 0))
+        (map payload_of command.now.words.now)) }
     ensures err { IfErr result (λ e. e ≡ SplitError.NoMemory) }
 {
+    let words = command.words;
     let name = words.word(0).as_slice();
     let Some(entry) = look(name) else {
         return Ok(Planned::Other(Plan::Here(
@@ -145,7 +160,7 @@ fn plan_command<'a>(
             Value::Fault(wrong_number(alloc, entry)?),
         )));
     }
-    plan_known(alloc, texts, entry, command, text_len, words)
+    plan_known(alloc, texts, entry, command)
 }
 
 fn takes(entry: Entry, words: usize) -> bool
@@ -162,18 +177,21 @@ fn plan_known<'a>(
     alloc: Global,
     texts: &mut Texts,
     entry: Entry,
-    command: &Value,
-    text_len: u64,
-    words: &'a Values,
+    command: &ReadCommand<'a>,
 ) -> Result<Planned<'a>, SplitError>
-    requires words { are_words words.now ≡ true }
-    requires array { IsArrayOf words.now (tree_of command.now) }
+    requires words { are_words command.now.words.now ≡ true }
+    requires array { IsArrayOf command.now.words.now (tree_of command.now.value.now) }
     requires known { Contains rows (row_of entry) }
-    requires takes { takes entry.kind entry.least (length words.now) ≡ true }
-    ensures plan { IfOk result
-        (λ p. planned_in p ≡ plan_by entry.kind (row_of entry) (map payload_of words.now)) }
+    requires takes { takes entry.kind entry.least (length command.now.words.now) ≡ true }
+    ensures plan { IfOk result (λ p. planned_in p
+        ≡ plan_by entry.kind (row_of entry) (map payload_of command.now.words.now)) }
     ensures err { IfErr result (λ e. e ≡ SplitError.NoMemory) }
 {
+    let ReadCommand {
+        value,
+        text_len,
+        words,
+    } = *command;
     let (how, list) = match entry.kind {
         Kind::Ping => return Ok(Planned::Other(Plan::Here(
             Local::Pong,
@@ -187,7 +205,7 @@ fn plan_known<'a>(
             Local::Bye,
             Value::Simple(Bytes::from_static(b"OK")),
         ))),
-        Kind::One => return whole_part(texts, command, text_len, words, entry.key_at),
+        Kind::One => return whole_part(texts, value, text_len, words, entry.key_at),
         Kind::SplitGet => (
             Join::Get,
             key_parts(alloc, texts, text_len, Bytes::from_static(b"GET"), words)?,

@@ -23,7 +23,7 @@ pub enum Command {
 pub struct NamedCommand {
     /// The name, in lower case.
     pub name: &'static str,
-    /// The command.
+    /// The operation of this name.
     pub command: Command,
 }
 

@@ -45,7 +45,6 @@ pub(crate) fn put(entries: &mut Vec<Entry>, key: Bytes, value: Bytes) -> Result<
     Ok(())
 }
 
-/// The entries with one of these keys.
 pub(crate) fn count_among(entries: &[Entry], keys: &[Value]) -> usize
     ensures { result ≡ count_among (map payload_of (map tree_of keys.now)) entries.now }
 {
@@ -63,7 +62,7 @@ pub(crate) fn take_out(entries: &mut Vec<Entry>, keys: &[Value])
     entries.retain(|entry| !is_among(keys, entry.key.as_slice()));
 }
 
-/// The words that are keys, repeats counted.
+/// A repeated word counts again.
 #[tactic(auto, using(crate::proofs::MapLemmas::count_by_map))]
 pub(crate) fn count_keys(entries: &[Entry], words: &[Value]) -> usize
     ensures { result ≡ count_keys entries.now (map payload_of (map tree_of words.now)) }

@@ -42,8 +42,7 @@ impl Session {
         }
     }
 
-    // Takes bytes of requests, and serves the complete ones. Takes none while earlier requests wait for memory or for
-    // room.
+    // It takes no bytes while earlier requests wait for memory or for room.
     pub(crate) fn write(&mut self, bytes: &[u8]) -> Result<usize, ErrorKind>
         ensures taken { IfOk result (λ n. n ≤ length bytes.now) }
         ensures kinds { IfErr result
@@ -61,8 +60,7 @@ impl Session {
         Ok(taken)
     }
 
-    // Serves waiting requests, and moves bytes of replies. Returns their number, 0 only at the end or for an empty
-    // buffer. `WouldBlock`: nothing is left before the end.
+    // It returns 0 only at the end or for an empty buffer. `WouldBlock`: nothing is left before the end.
     pub(crate) fn read(&mut self, buffer: &mut [u8]) -> Result<usize, ErrorKind>
         ensures given { IfOk result (λ n. n ≤ length buffer.new) }
         ensures kinds { IfErr result (λ kind. kind ≡ ErrorKind.WouldBlock) }

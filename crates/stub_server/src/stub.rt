@@ -46,7 +46,7 @@ impl Model for Stub {
 /// The response to a request.
 #[derive(Drop)]
 pub enum Response {
-    /// The answer.
+    /// The answer to the request.
     Answer(Value),
     /// Nothing: it stays unanswered.
     Silence,

@@ -71,7 +71,6 @@ impl Unread {
         Ok(())
     }
 
-    // Moves the unread bytes to the front, once many read ones are before them.
     fn settle(&mut self)
         ensures { self.new ≡ self.old }
     {
@@ -84,7 +83,6 @@ impl Unread {
         self.given = 0;
     }
 
-    // Moves as many bytes as fit; returns their number.
     pub(crate) fn give(&mut self, buffer: &mut [u8]) -> usize
         ensures count { result ≡ min (length buffer.old) (length self.old) }
         ensures bytes { take result buffer.new ≡ take result self.old }

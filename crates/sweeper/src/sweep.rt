@@ -1,6 +1,7 @@
 //! One sweep, which is one turn of a core.
 ghost use Rattle.std.specs.Prelude.{◌≡◌, IfOk, IfErr};
 ghost use Rattle.ticket_gate.specs.Journal.{AddsTurn};
+ghost use Rattle.ticket_gate.specs.Turns.{KeepsPlace};
 ghost use Rattle.proxy_history.specs.Answer.{counts_of};
 ghost use Rattle.proxy_history.specs.declared.event.Event.{Event};
 ghost use Rattle.sweeper.specs.Sweep.{RefusesFor, RefusesSweep, number_of};
@@ -38,26 +39,25 @@ impl SweepRefusal {
     }
 }
 
-/// Makes one turn: a sweep at this moment in milliseconds. Returns the numbers of hosts that it
-/// returned, ejected, and let stay though they tripped.
+/// Makes one turn: a sweep at this moment in milliseconds. Returns the numbers of hosts that it returned, ejected, and
+/// let stay though they tripped.
 ///
-/// Answered: the pass now sees a legal journal, which begins with what it saw before and ends with
-/// this sweep and this answer. Of its own steps only that one is new. Refused `NoMemory` (1001) or
-/// `JournalFull` (1002) by the core: that has its cause over what the pass now sees, which has no
-/// further step of the pass. Refused `Spent` (1202) where no ticket is left: the pass has seen
-/// nothing new.
+/// Answered: the pass now sees a legal journal, which begins with what it saw before and ends with this sweep and this
+/// answer, its only new step. Refused 1001 (`NoMemory`) or 1002 (`JournalFull`) by the core: that has its cause over
+/// what the pass now sees, which has no further step of the pass. Refused 1202 (`Spent`) where no ticket is left: the
+/// pass has seen nothing new.
 pub fn sweep_once<R: Wait, T: CoreTurns>(
     rt: &R,
     turns: &mut T,
     moment: u64,
 ) -> Result<Swept, SweepRefusal>
-    ensures same { (T.home turns.new ≡ T.home turns.old) × (T.pass turns.new ≡ T.pass turns.old)
-        × (T.setting turns.new ≡ T.setting turns.old) }
-    ensures answered { IfOk result (λ swept. AddsTurn (T.legal (T.setting turns.old))
-        (T.pass turns.old) (T.seen turns.old)
-        (Event.Swept moment) (counts_of swept) (T.seen turns.new)) }
-    ensures refused { IfErr result (RefusesSweep (T.cause (T.setting turns.old)) (T.spent turns.new)
-        (T.pass turns.old) (T.seen turns.old) moment (T.seen turns.new)) }
+    ensures same { KeepsPlace (T.facts turns.old) (T.facts turns.new) }
+    ensures answered { let old = T.facts turns.old in IfOk result (λ swept.
+        AddsTurn (T.legal old.setting) old.pass old.seen
+        (Event.Swept moment) (counts_of swept) (T.facts turns.new).seen) }
+    ensures refused { let old = T.facts turns.old in IfErr result (RefusesSweep
+        (T.cause old.setting) (T.spent turns.new) old.pass old.seen moment
+        (T.facts turns.new).seen) }
 {
     match ask_sweep(rt, turns, moment) {
         Ok(
@@ -78,18 +78,18 @@ pub fn sweep_once<R: Wait, T: CoreTurns>(
     }
 }
 
-// The turn of a sweep. A refusal for want of tickets has no cause.
+// A refusal for want of tickets has no cause.
 fn ask_sweep<R: Wait, T: CoreTurns>(
     rt: &R,
     turns: &mut T,
     moment: u64,
 ) -> Result<Answer, Option<Refusal>>
-    ensures same { (T.home turns.new ≡ T.home turns.old) × (T.pass turns.new ≡ T.pass turns.old)
-        × (T.setting turns.new ≡ T.setting turns.old) }
-    ensures answered { IfOk result (λ answer. AddsTurn (T.legal (T.setting turns.old))
-        (T.pass turns.old) (T.seen turns.old) (Event.Swept moment) answer (T.seen turns.new)) }
-    ensures refused { IfErr result (RefusesFor (T.cause (T.setting turns.old)) (T.spent turns.new)
-        (T.pass turns.old) (T.seen turns.old) moment (T.seen turns.new)) }
+    ensures same { KeepsPlace (T.facts turns.old) (T.facts turns.new) }
+    ensures answered { let old = T.facts turns.old in IfOk result (λ answer.
+        AddsTurn (T.legal old.setting) old.pass old.seen
+        (Event.Swept moment) answer (T.facts turns.new).seen) }
+    ensures refused { let old = T.facts turns.old in IfErr result (RefusesFor (T.cause old.setting)
+        (T.spent turns.new) old.pass old.seen moment (T.facts turns.new).seen) }
 {
     match turns.turn(rt, Event::Swept { t: moment }) {
         Ok(answer) => Ok(answer),

@@ -15,9 +15,8 @@ use std::sync::Wait;
 // An act of a client, a host or the test, or a fact that must hold then.
 #[derive(Clone, Copy)]
 pub(crate) enum Act {
-    // The next of two clients connects over these ends and sends this.
+    // The next of two clients connects and sends this.
     Opens(Feed, Ends),
-    // Opening a connection fails with this error.
     CannotOpen(EngineError),
     // The first client sends this from now on.
     Says(Feed),
@@ -26,18 +25,16 @@ pub(crate) enum Act {
     Links(Link),
     // Hosts that are no stubs send this from now on.
     HostSays(Feed),
-    // All engines are stepped at this moment, until nothing moves.
+    // All engines are stepped at this moment until nothing moves.
     Runs(u64),
     // The first client makes this many steps: each returns this, and nothing is recorded.
     Steps(Progress, u32),
-    // The first host makes one step at this moment, which returns this.
     HostSteps(u64, Progress),
-    // The only host's link of this epoch is refused, which has this effect on the host.
+    // The only host's link of this epoch is refused, with this effect on the host.
     LinkRefused(u64, Trip),
     IsRefused(Deed, Refusal),
 
     Took(Text),
-    // The second client took this.
     SecondTook(Text),
     Asked(Text),
     AskedLater(Text),
@@ -48,18 +45,16 @@ pub(crate) enum Act {
 
     ClientFailed(Option<StepFailure>),
     HostFailed(Option<StepFailure>),
-    // No step returned another error than this one.
+    // No step returned another error.
     OnlyTold(EngineError),
 
     Did(Deed, usize),
-    // The number of steps of this kind is at most this.
     DidAtMost(Deed, usize),
-    // The only fault is of epoch 0: its kind, the number of its parts, and its moment.
+    // The only fault, of epoch 0: its kind, its parts and its moment.
     Lost(Kind, u64, u64),
-    // This many parts were answered or lost.
+    // The number of parts.
     AnsweredOrLost(usize),
     Recorded(usize),
-    // Fewer steps than this were recorded.
     RecordedBelow(usize),
     Sent(u64, usize),
     // Parts were written as sent: over the first link those of epoch 0 or a beginning, over the second those of epoch 1.
@@ -67,7 +62,6 @@ pub(crate) enum Act {
     // This many replies were handed out before the newest command arrived.
     HandedBefore(usize),
 
-    // The number of an error.
     IsNumbered(EngineError, u16),
 }
 
@@ -112,7 +106,7 @@ fn made(outcome: Result<(), EngineError>) -> Result<(), Came> {
     }
 }
 
-// A scene's own acts between shared lists of acts, which are constants.
+// A scene's own acts between shared ones.
 #[derive(Clone, Copy)]
 pub(crate) struct Scene<'a> {
     pub(crate) before: &'static [&'static [Act]],
@@ -149,7 +143,7 @@ pub(crate) fn play<Rt: Wait + AllocGlobal>(
     }
 }
 
-// The same with turns of this ration; returns the core at the end.
+// The same with turns of this ration. Returns the core at the end.
 pub(crate) fn record<Rt: Wait + AllocGlobal>(
     rt: &Rt,
     hosts: usize,
@@ -168,7 +162,7 @@ pub(crate) fn record<Rt: Wait + AllocGlobal>(
 }
 
 impl<'a> Rig<'a> {
-    // Plays acts in their order; returns the core at the end, or the first act that fails.
+    // The core after all acts, or the first act that fails.
     fn played<Rt: Wait + AllocGlobal>(mut self, rt: &Rt, scene: Scene<'_>) -> Result<Core, Fault> {
         match self.play(rt, scene) {
             Ok(()) => Ok(self.into_core()),
@@ -254,7 +248,7 @@ impl<'a> Rig<'a> {
     }
 }
 
-// Acts without a step: change what devices do, or check what was sent and taken.
+// Acts that change what devices do, or check what was sent and taken.
 fn on_stage(stage: &Stage, core: &Core, act: Act) -> Result<(), Came> {
     match act {
         Act::Says(feed) => Ok(stage.first.says.set(feed)),

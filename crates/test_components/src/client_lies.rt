@@ -49,8 +49,7 @@ fn check_writer<Rt: Wait + AllocGlobal>(
     play(rt, 3, scene)
 }
 
-// The writer fails after each number of bytes below `bytes`, with long and short writes: the client took the output's
-// first bytes and no more.
+// The writer fails after each number of bytes below `bytes`, with long and short writes.
 fn check_writers<Rt: Wait + AllocGlobal>(
     rt: &Rt,
     (asked, answers): Exchange,
@@ -109,8 +108,8 @@ fn check_reader<Rt: Wait + AllocGlobal>(
     play(rt, 3, scene)
 }
 
-// The reader fails after each byte of the input, with long and short reads: commands that came completely were
-// accepted, and only these are answered. `first` and `second` are the ends of each command and of its answer.
+// The reader fails after each byte of the input, with long and short reads. `first` and `second` are the ends of each
+// command and of its answer.
 fn check_readers<Rt: Wait + AllocGlobal>(
     rt: &Rt,
     (asked, answers): Exchange,
@@ -166,7 +165,7 @@ fn ends_that_last_are_enough(rt: HostRuntime) -> Result<(), Fail> {
 }
 
 // The first of two clients is cut: its answers so far stay, its later events are refused, no host has a fault, and the
-// other client gets all answers.
+// other gets all answers.
 fn check_beside<Rt: Wait + AllocGlobal>(rt: &Rt, ends: Ends) -> Result<(), Fault> {
     let opens = [Act::Opens(Feed::Whole(SET_AND_MGET.0), ends)];
     let scene = Scene {
@@ -190,7 +189,6 @@ const CUT_BESIDE: &[Act] = &[
     Act::IsRefused(Deed::Closed, Refusal::NoSuchConnection),
 ];
 
-// A client's ends that read 5 bytes and write one byte at a time.
 const SLOW: Ends = Ends {
     reads: u64::MAX,
     writes: u64::MAX,
@@ -208,16 +206,14 @@ fn check_all_beside<Rt: Wait + AllocGlobal>(rt: &Rt) -> Result<(), Fault> {
     Ok(())
 }
 
-// Cutting a client after each byte read and after each byte written disturbs no other.
 #[test]
 fn cut_clients_leave_others(rt: HostRuntime) -> Result<(), Fail> {
     check_all_beside(&rt)?;
     Ok(())
 }
 
-// A client that takes nothing while it asks 1,030 times. While the host has no link, 1,024 commands are accepted, one
-// is held back, and no more is read. With a link all accepted commands are answered, and no more is read. Once the
-// client takes bytes again, nothing is lost.
+// A client asks 1,030 times and takes nothing. While the host has no link, 1,024 commands are accepted and one is held
+// back. With a link those are answered, and no more is read. Once the client takes bytes again, nothing is lost.
 const NEVER_READS: &[Act] = &[
     Act::IsShut(true),
     Act::Opens(Feed::Then(b"", GET, 1_030), Ends::FREE),

@@ -52,7 +52,7 @@ pub(crate) fn swept_at(event: &Event) -> Option<u64> {
     }
 }
 
-// The number of the pass's sweeps, if they stand in the order in which it made them.
+// `None`: the pass's sweeps don't stand in the order in which it made them.
 fn sweeps_in_order(core: &Core, pass: u64) -> Option<u64> {
     let journal = core.journal();
     let mut next = 0u64;
@@ -68,7 +68,7 @@ fn sweeps_in_order(core: &Core, pass: u64) -> Option<u64> {
     Some(next)
 }
 
-// The number of steps, and of each pass's sweeps if they are in order.
+// The number of steps, and each pass's `sweeps_in_order`.
 fn told(core: Option<Core>) -> Option<(usize, [Option<u64>; 2])> {
     let core = core?;
     let sweeps = [sweeps_in_order(&core, 0), sweeps_in_order(&core, 1)];

@@ -17,7 +17,6 @@ pub(crate) fn counting_core(alloc: Global) -> Result<CountingCore, Fail>
     Ok(CountingCore::new(alloc, ring, Settings::default())?)
 }
 
-// Whether both cores answer their event alike, or refuse it for the same cause.
 fn answer_alike(whole: &mut Core, counting: &mut CountingCore, one: Event, other: Event) -> bool {
     match (whole.turn(0, one), counting.turn(0, other)) {
         (Ok(first), Ok(second)) => first == second,
@@ -33,7 +32,7 @@ fn are_same(one: Option<&Step<Event, Answer>>, other: Option<&Step<Event, Answer
     }
 }
 
-// Whether both journals have the same length, payload and newest step, and the counting one keeps none before that.
+// The counting journal keeps its newest step alone.
 fn are_alike(whole: &Core, counting: &CountingCore) -> bool {
     let (one, other) = (whole.journal(), counting.journal());
     let newest = other.len().saturating_sub(1);
@@ -46,7 +45,6 @@ fn are_alike(whole: &Core, counting: &CountingCore) -> bool {
         && !other.records()
 }
 
-// A failure names the index of the move.
 #[test]
 fn a_counting_core_goes_as_one_that_keeps_all(rt: HostRuntime) -> Result<(), Fail> {
     let mut whole = core(rt.alloc())?;
@@ -62,7 +60,6 @@ fn a_counting_core_goes_as_one_that_keeps_all(rt: HostRuntime) -> Result<(), Fai
     Ok(())
 }
 
-// Adds a step with its index as event, and a byte of payload.
 fn add(journal: &mut Journal<u64, u8>, event: u64) -> Result<(), JournalError> {
     journal.room(1)?;
     journal.add(

@@ -1,5 +1,4 @@
-//! Readers and writers of clients and hosts that stop short and pause, and the bytes that a writer
-//! took.
+//! Readers and writers that stop short and pause, and what a writer took.
 
 use std::alloc::Global;
 use std::cell::{Cell, RefCell};
@@ -34,7 +33,6 @@ impl Feed {
         }
     }
 
-    // The same with these bytes left until the next pause.
     fn with(self, left: &'static [u8]) -> Feed {
         match self {
             Feed::Whole(_) => Feed::Whole(left),
@@ -43,7 +41,6 @@ impl Feed {
         }
     }
 
-    // The same after a pause.
     fn rested(self) -> Feed {
         match self {
             Feed::Then([], later, times) if times > 0 => Feed::Then(later, later, times - 1),
@@ -52,7 +49,6 @@ impl Feed {
     }
 }
 
-// Reads from the feed in a cell, at most `most` bytes a call.
 #[derive(Drop)]
 pub(crate) struct Source<'a> {
     pub(crate) feed: &'a Cell<Feed>,
@@ -76,13 +72,12 @@ impl Source<'_> {
     }
 }
 
-// The text that a writer must have taken.
+// What a writer must have taken.
 #[derive(Clone, Copy)]
 pub(crate) enum Text {
     All(&'static [u8]),
-    // A beginning of this.
     BeginningOf(&'static [u8]),
-    // The first text this many times, then the other one, and nothing else.
+    // The first text this many times, and then the other.
     Times(&'static [u8], usize, &'static [u8]),
     // This many bytes, with these first and last ones.
     Long(usize, &'static [u8], &'static [u8]),
@@ -101,7 +96,6 @@ impl Text {
     }
 }
 
-// Whether these bytes are a text `times` times and then another one.
 fn is_repeated(bytes: &[u8], text: &[u8], times: usize, last: &[u8]) -> bool {
     let (front, behind) = bytes.split_at(text.len().saturating_mul(times).min(bytes.len()));
     front.len() == text.len().saturating_mul(times)
@@ -109,7 +103,7 @@ fn is_repeated(bytes: &[u8], text: &[u8], times: usize, last: &[u8]) -> bool {
         && behind == last
 }
 
-// The bytes that a writer took, and whether it takes none for now.
+// What a writer took, and whether it takes none for now.
 #[derive(Drop)]
 pub(crate) struct Taken {
     pub(crate) bytes: RefCell<Vec<u8>>,
@@ -146,7 +140,7 @@ impl Taken {
     }
 }
 
-// The input of a client or host engine: a stub's replies, or a text whatever is asked.
+// The input: a stub's replies, or a text whatever is asked.
 pub(crate) enum Reader<'a> {
     Stub(StubReader),
     Text(Source<'a>),
@@ -175,7 +169,7 @@ impl Read for Reader<'_> {
     }
 }
 
-// The output of a client or host engine: kept, at most this many bytes a call, or taken by a stub.
+// The output is kept, at most this many bytes a call, or taken by a stub.
 pub(crate) struct Writer<'a> {
     pub(crate) stub: Option<StubWriter>,
     pub(crate) taken: &'a Taken,

@@ -15,7 +15,7 @@ use ticket_gate::{Gate, Pass, Recorded, Seated, Spare, TurnRefusal, Turns};
 
 const MAX_LOOKS: u32 = 1_000_000;
 
-// Waits until the flag is as wanted, with a yield after each look. False: it never was.
+// It yields after each look. False: the flag never was as wanted.
 fn becomes(flag: &AtomicBool, wanted: bool) -> bool {
     for _ in 0..MAX_LOOKS {
         if flag.load(SeqCst) == wanted {
@@ -26,7 +26,7 @@ fn becomes(flag: &AtomicBool, wanted: bool) -> bool {
     false
 }
 
-/// A running total whose turns wait while the flag `hold` is up. One that is held too long is refused without a cause.
+/// A running total whose turns wait while `hold` is up. One that waits too long is refused without a cause.
 #[derive(Drop)]
 struct HeldTotal {
     total: RunningTotal,
@@ -142,7 +142,7 @@ pub(crate) fn enrol_both<S: Recorded + Drop, R: Wait>(
     }
 }
 
-// Whether each pass's steps stand in the order in which it made them, and none is of another pass.
+// Each pass's steps stand in the order in which it made them, and none is of another pass.
 fn are_in_order(steps: &[Step<u64, u64>], passes: usize) -> bool {
     let mut next = [0u64; 4];
     for step in steps {
@@ -185,8 +185,8 @@ pub(crate) fn outcome_of(turn: Result<u64, TurnRefusal<AdditionRefusal, u64>>) -
     }
 }
 
-// Facts about a total's steps: the number for each of four passes, whether all are of these passes and in order, their
-// number, and their sum.
+// Of a total's steps: the number for each of four passes, whether all are of these and in order, their number, and
+// their sum.
 type TotalFacts = ([u64; 4], bool, u64, u64);
 
 fn found(state: Option<RunningTotal>, passes: usize) -> Option<TotalFacts> {
@@ -206,7 +206,7 @@ pub(crate) fn answered_turns<
     R: Wait,
 >(rt: &R, turns: &mut T, times: u64) -> u64
     ensures few { result ≤ times }
-    ensures same { T.home turns.new ≡ T.home turns.old }
+    ensures same { (T.facts turns.new).home ≡ (T.facts turns.old).home }
 {
     let mut answered = 0u64;
     for amount in 0..times {
@@ -230,8 +230,8 @@ fn make_turns<R: Wait>(
     (turns.into_pass(), answered)
 }
 
-// Both passes make turns in their own threads at the same time. Returns the first pass, the numbers of answered turns,
-// and the numbers of the passes.
+// Both passes make turns in their own threads. Returns the first pass, the numbers of answered turns, and the passes'
+// numbers.
 fn fill_both<R: thread::Threads + Wait + Sync>(
     rt: &R,
     gate: &Gate<RunningTotal>,
@@ -268,7 +268,7 @@ fn two_passes_fill_one_journal(rt: HostRuntime) -> Result<(), Fail> {
     Ok(())
 }
 
-// Makes every other turn as one that waits. Returns the number of answered turns.
+// Every other turn waits. Returns the number of answered turns.
 fn mix_turns<R: Wait>(
     rt: &R,
     gate: &Gate<RunningTotal>,
@@ -317,19 +317,25 @@ fn mix_two<R: thread::Threads + Wait + Sync>(
     )
 }
 
-// Four passes make turns in their own threads. Returns the first one, and the numbers of answered turns.
+#[derive(Drop)]
+struct PassPair {
+    one: Pass<RunningTotal>,
+    other: Pass<RunningTotal>,
+}
+
+// Returns the first pass, and the numbers of answered turns.
 fn mix_four<R: thread::Threads + Wait + Sync>(
     rt: &R,
     gate: &Gate<RunningTotal>,
-    a: Pass<RunningTotal>,
-    b: Pass<RunningTotal>,
-    c: Pass<RunningTotal>,
-    d: Pass<RunningTotal>,
+    left: PassPair,
+    right: PassPair,
 ) -> (Pass<RunningTotal>, [u64; 4])
-    requires { IsPassOf gate.now a × IsPassOf gate.now b × IsPassOf gate.now c
-        × IsPassOf gate.now d }
+    requires left { IsPassOf gate.now left.one × IsPassOf gate.now left.other }
+    requires right { IsPassOf gate.now right.one × IsPassOf gate.now right.other }
     ensures { IsPassOf gate.now result.0 }
 {
+    let PassPair { one: a, other: b } = left;
+    let PassPair { one: c, other: d } = right;
     let (first, second) = thread::join(
         rt,
         || -> ((Pass<RunningTotal>, u64), (Pass<RunningTotal>, u64))
@@ -345,7 +351,7 @@ fn mix_four<R: thread::Threads + Wait + Sync>(
     (a, [by_a, by_b, by_c, by_d])
 }
 
-// Whether the steps are those answered: each pass's 250 waiting ones, and others.
+// Each pass has 250 steps of turns that waited, and others.
 fn is_mixed(answered: [u64; 4], found: Option<TotalFacts>) -> bool {
     let Some(found) = found else {
         return false;
@@ -365,9 +371,11 @@ fn is_mixed(answered: [u64; 4], found: Option<TotalFacts>) -> bool {
 fn four_threads_mix_their_turns(rt: HostRuntime) -> Result<(), Fail> {
     let (gate, spare) = open(rt.alloc(), RunningTotal::new(rt.alloc(), u64::MAX))?;
     let (left, right) = gate.split(spare);
-    let (a, b) = enrol_both(&rt, &gate, left)?;
-    let (c, d) = enrol_both(&rt, &gate, right)?;
-    let (a, answered) = mix_four(&rt, &gate, a, b, c, d);
+    let (one, other) = enrol_both(&rt, &gate, left)?;
+    let left = PassPair { one, other };
+    let (one, other) = enrol_both(&rt, &gate, right)?;
+    let right = PassPair { one, other };
+    let (a, answered) = mix_four(&rt, &gate, left, right);
     let found = found(gate.close(a), 4);
     assert!(rt; is_mixed(answered, found));
     Ok(())

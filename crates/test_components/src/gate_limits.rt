@@ -12,13 +12,13 @@ use ticket_gate::{
     Alone, Gate, GateRefusal, MAX_TURNS_INSIDE, Pass, Seated, Spare, TurnRefusal, Turns,
 };
 
-// An act of two passes, with the expected outcome.
 #[derive(Clone, Copy)]
 enum Act {
     // A turn of the first pass that waits.
     Takes(u64, Outcome),
-    // A turn of the first pass, and of the second, that doesn't wait.
+    // A turn of the first pass that doesn't wait.
     Tries(u64, Outcome),
+    // A turn of the second pass that doesn't wait.
     OtherTries(u64, Outcome),
     Looks(Outcome),
 }
@@ -49,7 +49,7 @@ fn comes_so<R: Wait>(
     }
 }
 
-// The index of the first act without it.
+// The index of the first act with another outcome.
 fn first_fault<R: Wait>(
     rt: &R,
     gate: &Gate<RunningTotal>,
@@ -88,7 +88,8 @@ fn ends_with(state: Option<RunningTotal>, steps: &[(u64, u64)]) -> bool {
     is_so
 }
 
-// Plays two passes' acts at a gate with this first ticket, around a total with this limit, and compares the steps at the end.
+// Plays two passes' acts at a gate with this first ticket, around a total with this limit. Compares the steps at the
+// end.
 fn check<R: Wait + AllocGlobal>(
     rt: &R,
     (first, limit): (u64, u64),
@@ -110,7 +111,6 @@ fn check<R: Wait + AllocGlobal>(
     }
 }
 
-// One ticket is left, and the first turn draws it.
 #[test]
 fn tickets_end_before_the_greatest_number(rt: HostRuntime) -> Result<(), Fail> {
     let acts = &[
@@ -143,8 +143,8 @@ fn a_free_gate_answers_at_once(rt: HostRuntime) -> Result<(), Fail> {
     check(&rt, (0, 100), acts, &[(0, 4), (0, 5)])
 }
 
-// What came of a seat that holds the gate, and of another pass beside it: the seat's first turn; the other's while the seat is
-// inside, once it has left, once it has made all its turns inside, and once it was dropped inside.
+// The outcomes of a seat's first turn, and of another pass's turns: while the seat is inside, once it has left, once it
+// has made all its turns inside, and once it was dropped inside.
 fn outcomes_beside<R: Wait>(
     rt: &R,
     gate: &Gate<RunningTotal>,
@@ -190,7 +190,7 @@ fn a_pass_that_holds_the_gate_keeps_others_out_until_it_leaves(
     Ok(())
 }
 
-// Enrols 256 passes, and returns the remaining spare place.
+// Returns the spare place that remains after 256 passes.
 fn fill<R: Wait>(
     rt: &R,
     gate: &Gate<RunningTotal>,
@@ -230,7 +230,6 @@ fn the_257th_pass_is_refused(rt: HostRuntime) -> Result<(), Fail> {
     Ok(())
 }
 
-// Makes a turn, again if there was no memory.
 fn turn_again<R: Wait>(rt: &R, gate: &Gate<RunningTotal>, pass: &mut Pass<RunningTotal>) -> Outcome
     requires { IsPassOf gate.now pass.old }
     ensures { IsPassOf gate.now pass.new }

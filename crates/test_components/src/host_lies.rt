@@ -11,7 +11,7 @@ use std::sync::Wait;
 use std::test::Fail;
 use stub_server::Act as Serves;
 
-// A host that sends this part of a reply and then ends: the link is dropped, and the part is lost.
+// A host sends this part of a reply and ends: its link is dropped, and the part is lost.
 fn check_half<Rt: Wait + AllocGlobal>(rt: &Rt, half: &'static [u8]) -> Result<(), Fault> {
     let says = [Act::HostSays(Feed::Whole(half))];
     let scene = Scene {
@@ -45,7 +45,7 @@ fn half_replies_are_lost(rt: HostRuntime) -> Result<(), Fail> {
     Ok(())
 }
 
-// Two replies to one request: the first answers it, and the second is one bad result. The host is ejected at the fourth
+// The first of two replies answers the request, and the second is one bad result. The host is ejected at the fourth
 // fault after it.
 const SECOND_REPLY: &[Act] = &[
     Act::Opens(Feed::Whole(SET), Ends::FREE),
@@ -67,7 +67,6 @@ fn second_replies_end_the_link(rt: HostRuntime) -> Result<(), Fail> {
     Ok(())
 }
 
-// A garbled reply loses its part; the next command goes over a new link.
 const GARBLED_REPLY: &[Act] = &[
     Act::Opens(Feed::Open(GET), Ends::FREE),
     Act::Links(Link {
@@ -94,7 +93,6 @@ fn garbled_replies_end_the_link(rt: HostRuntime) -> Result<(), Fail> {
 
 const ZEROS: &[u8] = &[b'0'; 8_192];
 
-// A host begins a reply of nine bulk strings.
 const NINE: &[Act] = &[
     Act::Opens(Feed::Open(GET), Ends::FREE),
     Act::Links(Link::TEXT),
@@ -154,7 +152,7 @@ fn replies_have_a_greatest_length(rt: HostRuntime) -> Result<(), Fail> {
     Ok(())
 }
 
-// A part taken at the moment 10 is late at 5,010, and not a millisecond earlier. That is one step.
+// A part taken at the moment 10 is late at 5,010, and not earlier. That is one step.
 const LATE_REPLY: &[Act] = &[
     Act::Opens(Feed::Open(GET), Ends::FREE),
     Act::Links(Link::TEXT),
@@ -175,8 +173,8 @@ fn held_replies_are_late(rt: HostRuntime) -> Result<(), Fail> {
     Ok(())
 }
 
-// Of 1,025 commands that wait for one host the last one is held back. The others are lost and answered before it is
-// sent over the next link.
+// Of 1,025 commands for one host the last is held back. The others are lost and answered before it is sent over the
+// next link.
 const HELD_COMMAND: &[Act] = &[
     Act::Opens(Feed::Then(b"", GET, 1_025), Ends::FREE),
     Act::Links(Link::TEXT),
@@ -204,7 +202,7 @@ fn held_commands_wait_for_room(rt: HostRuntime) -> Result<(), Fail> {
 const FOUR_PARTS: &[u8] =
     b"*3\r\n$3\r\nSET\r\n$1\r\na\r\n$1\r\n1\r\n*2\r\n$3\r\nGET\r\n$1\r\na\r\n*3\r\n$4\r\nMGET\r\n$1\r\na\r\n$1\r\na\r\n";
 
-// The first of two links fails after this many bytes. The error is returned once; each part is answered or lost, and
+// The first of two links fails after this many bytes. Its error is returned once; each part is answered or lost, and
 // sent at most once.
 fn check_link<Rt: Wait + AllocGlobal>(
     rt: &Rt,
@@ -251,7 +249,6 @@ const WRITE_FAILED: (Option<StepFailure>, usize) = (
     1,
 );
 
-// Fails links after each byte read and after each byte written.
 fn check_links<Rt: Wait + AllocGlobal>(rt: &Rt) -> Result<(), Fault> {
     for reads in 0..27 {
         check_link(rt, (reads, u64::MAX), READ_FAILED)?;
@@ -279,7 +276,6 @@ const ASKS_FOR_LINKS: &[Act] = &[
     Act::HostSteps(0, Progress::NeedsLink),
     Act::Runs(0),
     Act::HostSteps(0, Progress::NeedsLink),
-    // A link that ends at the second command.
     Act::Links(Link {
         to: Peer::Stub(&[Serves::Reply, Serves::Drop]),
         reads: u64::MAX,

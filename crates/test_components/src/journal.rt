@@ -53,7 +53,6 @@ impl Loss {
     }
 }
 
-// The number of steps of this kind.
 pub(crate) fn count(core: &Core, deed: Deed) -> usize {
     let journal = core.journal();
     let mut found = 0usize;
@@ -86,7 +85,6 @@ pub(crate) fn last_loss(core: &Core) -> Option<Loss> {
     found
 }
 
-// The newest fault's effect on its host, and the epoch that it ended.
 pub(crate) fn last_trip(core: &Core) -> Option<(u64, Trip)> {
     let journal = core.journal();
     match journal.get(journal.len().saturating_sub(1)) {
@@ -118,7 +116,6 @@ pub(crate) fn sent_in(core: &Core, epoch: u64) -> usize {
     found
 }
 
-// The text of the part sent at this step in this epoch, if there is one.
 fn sent_at(core: &Core, place: usize, epoch: u64) -> Option<&[u8]> {
     match &core.journal().get(place)?.answer {
         Answer::Sent {
@@ -138,7 +135,6 @@ pub(crate) fn sent_len(core: &Core, epoch: u64) -> usize {
     len
 }
 
-// Whether these bytes begin the parts sent in this epoch.
 pub(crate) fn begins_sent(core: &Core, epoch: u64, bytes: &[u8]) -> bool {
     let mut left = bytes;
     for place in 0..core.journal().len() {
@@ -152,7 +148,6 @@ pub(crate) fn begins_sent(core: &Core, epoch: u64, bytes: &[u8]) -> bool {
     left.is_empty()
 }
 
-// The number of replies handed out before the newest command arrived.
 pub(crate) fn handed_before_last_arrival(core: &Core) -> usize {
     let journal = core.journal();
     let mut handed = 0usize;
@@ -177,7 +172,7 @@ pub(crate) fn handed_before_last_arrival(core: &Core) -> usize {
     before
 }
 
-// Steps whose order doesn't depend on timing: those of one kind, and of one host if it is a host's.
+// Steps of one kind, and of one host if it is a host's: their order doesn't depend on timing.
 #[derive(Clone, Copy)]
 struct Kin {
     deed: Deed,
@@ -195,7 +190,7 @@ impl Kin {
         Deed::of(event) == self.deed && host == self.host
     }
 
-    // The answer to the first of these steps from an index on, and the next index.
+    // The answer to the first of these from an index on, and the next index.
     fn next(self, core: &Core, from: usize) -> Option<(&Answer, usize)> {
         let journal = core.journal();
         for i in from..journal.len() {
@@ -208,7 +203,6 @@ impl Kin {
         None
     }
 
-    // Whether these steps have the same answers in the same order in both journals.
     fn goes_alike(self, one: &Core, other: &Core) -> bool {
         let (mut i, mut j) = (0, 0);
         for _ in 0..=one.journal().len() {
@@ -228,7 +222,7 @@ impl Kin {
     }
 }
 
-// Whether one client and three hosts without faults did the same in both journals, whatever the timing.
+// Whether one client and three hosts without faults did the same, whatever the timing.
 pub(crate) fn go_alike(one: &Core, other: &Core) -> bool {
     let clients = [
         Deed::Opened,

@@ -10,7 +10,7 @@ use std::io::{ErrorKind, Read, Write};
 use std::test::Fail;
 use stub_server::{Act, MAX_TAKEN, MAX_UNREAD, StubReader, StubWriter};
 
-// The two ends of a link to an empty stub with these acts, made again if memory was refused.
+// It is made again if memory was refused.
 fn link(alloc: Global, acts: &[Act]) -> Result<(StubReader, StubWriter), EngineError> {
     match stub(alloc, acts) {
         Ok(ends) => Ok(ends),
@@ -33,7 +33,7 @@ fn listen(reader: &mut StubReader, said: &Taken) -> io::Result<bool> {
     Ok(false)
 }
 
-// Keeps the bytes, in a second try if memory was refused.
+// It tries again if memory was refused.
 fn keep(said: &Taken, bytes: &[u8]) -> io::Result<()> {
     if said.keep(bytes).is_ok() {
         return Ok(());
@@ -41,7 +41,7 @@ fn keep(said: &Taken, bytes: &[u8]) -> io::Result<()> {
     said.keep(bytes)
 }
 
-// Writes one piece, in a second try if nothing was taken. Returns the number of bytes taken.
+// It tries again if nothing was taken. Returns the number of bytes taken.
 fn say(writer: &mut StubWriter, piece: &[u8]) -> usize {
     for _ in 0..2 {
         if let Ok(count) = writer.write(piece) {
@@ -58,12 +58,11 @@ fn refuses(writer: &mut StubWriter, kind: ErrorKind) -> bool {
     }
 }
 
-// Whether an ended link takes nothing and sends nothing.
 fn is_over(reader: &mut StubReader, writer: &mut StubWriter) -> bool {
     refuses(writer, ErrorKind::BrokenPipe) && matches!(reader.read(&mut [0; 8]), Ok(0))
 }
 
-// A link to an empty stub: its acts, the requests, the replies, and whether it has ended then.
+// The acts of an empty stub, the requests, the replies, and whether the link has ended then.
 type Talk = (&'static [Act], &'static [u8], &'static [u8], bool);
 
 const INCR: &[u8] =
@@ -98,7 +97,7 @@ const TALKS: &[Talk] = &[
     (&[Act::Hold], b"*2\r\n$4\r\nINCR\r\n$1\r\nn\r\n?", b"", true),
 ];
 
-// Writes the requests in pieces of this length, and reads after each. True: all is as expected.
+// Writes the requests in pieces of this length, and reads after each.
 fn goes(alloc: Global, talk: &Talk, step: usize) -> Result<bool, Fail> {
     let (acts, asked, answers, ends) = *talk;
     let (mut reader, mut writer) = link(alloc, acts)?;
@@ -113,8 +112,8 @@ fn goes(alloc: Global, talk: &Talk, step: usize) -> Result<bool, Fail> {
     Ok(is_right && stays)
 }
 
-// Passes also where one allocation is refused (`rt try --test --fail-alloc N`): the ends pause then, and go on. A
-// failure names the talk's index in the list and the length of the pieces.
+// It passes also where one allocation is refused (`rt try --test --fail-alloc N`). A failure names the index of the
+// talk and the length of the pieces.
 #[test]
 fn links_serve_by_their_scripts(rt: HostRuntime) -> Result<(), Fail> {
     for (place, talk) in TALKS.iter().enumerate() {
@@ -139,10 +138,9 @@ fn burst(alloc: Global) -> Result<Vec<u8>, Fail> {
     Ok(texts)
 }
 
-// The answer to it.
 const BURST_ANSWERS: Text = Text::Long(5 + 1_000 * 40_010, b"+OK\r\n$40000\r\nv", b"v\r\n");
 
-// Whether further requests are taken only as replies are read, and all are answered.
+// Further requests are taken only as replies are read, and all are answered.
 fn holds_back(alloc: Global, asked: &[u8]) -> Result<bool, Fail> {
     let (mut reader, mut writer) = link(alloc, &[])?;
     let said = Taken::new(alloc);
@@ -154,7 +152,6 @@ fn holds_back(alloc: Global, asked: &[u8]) -> Result<bool, Fail> {
     Ok(is_taken && waits && is_open && is_answered && goes_on)
 }
 
-// A burst of requests for a large value is served as its replies are read.
 #[test]
 fn unread_replies_hold_requests_back(rt: HostRuntime) -> Result<(), Fail> {
     let asked = burst(rt.alloc())?;

@@ -38,7 +38,6 @@ pub(crate) const MOVES: &[(Move, Told)] = &[
     (Move::IsAnswered, (Some(0), [false, true, false])),
     (Move::Hands(1), (Some(0), NONE)),
     (Move::Pings(1), (Some(0), [false, true, false])),
-    // A closed connection has nothing to hand out.
     (Move::Closes(1), (Some(0), NONE)),
     (Move::Opens, (Some(0), NONE)),
     (Move::Gets(2), (Some(0), NONE)),
@@ -102,7 +101,6 @@ fn told(core: &Core) -> Told {
     (core.next_owner(last), are_ready)
 }
 
-// A failure names the index of the move.
 #[test]
 fn next_replies_are_told(rt: HostRuntime) -> Result<(), Fail> {
     let mut core = core(rt.alloc())?;

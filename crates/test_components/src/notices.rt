@@ -9,15 +9,15 @@ use std::thread;
 use std::thread::Threads;
 use std::time::Duration;
 
-// The looks after which a taker gives up, and after how many it sleeps for a millisecond.
+// A taker gives up after this many looks.
 const MAX_LOOKS: u32 = 10_000_000;
 
+// A taker sleeps for a millisecond whenever it has made this many looks.
 const LOOKS: u32 = 1_000;
 
-// What is told, and what a worker then takes or asks, with the answer that is due.
+// What is told, and what a worker takes or asks, with the answer that is due.
 #[derive(Clone, Copy)]
 enum Act {
-    // The connection's client is this worker's, under this key.
     Adds {
         conn: u64,
         worker: usize,
@@ -28,21 +28,21 @@ enum Act {
         worker: usize,
         key: usize,
     },
-    // A reply came for the connection.
     Replies(u64),
     Parts(usize),
     Presses(usize),
-    // The worker takes all that it is told of replies: of any client, or the word of this index with these bits.
+    // The worker takes whether replies may have come to any client.
     TakesAll(usize, bool),
+    // The worker takes the word of this index with these bits.
     TakesWord(usize, Option<(usize, u64)>),
     // The worker takes the hosts for which parts came.
     TakesHosts(usize, u64),
-    // Whether the worker has anything to take.
     Concerns(usize, bool),
-    // The hosts that are pressed, and whether any of them is the worker's.
+    // The hosts that are pressed.
     Pressed(u64),
+    // Whether any of these is the worker's.
     HasPressed(usize, bool),
-    // The worker has seen these hosts. Whether a pressed one of its own is among them.
+    // The worker has seen these hosts. `any`: a pressed one of its own is among them.
     Sees {
         worker: usize,
         hosts: u64,
@@ -84,7 +84,7 @@ const SHARED_SLOT: &[Act] = &[
     Act::TakesAll(1, true),
     Act::TakesAll(0, false),
     Act::Concerns(1, false),
-    // The slot is another's still, so it doesn't become free.
+    // The slot doesn't become free: it is still another's.
     Act::Removes {
         conn: 5,
         worker: 0,
@@ -204,7 +204,6 @@ fn is_right(notices: &Notices, act: Act) -> bool {
     true
 }
 
-// Plays the acts for this many workers. A failure names the index of the act.
 fn play(alloc: Global, workers: usize, acts: &[Act]) -> Result<(), Fail> {
     let notices = Notices::new(alloc, workers)?;
     for (place, act) in acts.iter().enumerate() {
@@ -247,7 +246,7 @@ fn clients_are_held_back_until_the_host_s_own_worker_has_looked(
     play(rt.alloc(), 3, HELD_BACK)
 }
 
-// Takes until each key was taken. False: it gave up before.
+// False: it gave up before each key was taken.
 fn takes_all_keys<R: Wait + Clock>(rt: &R, notices: &Notices) -> bool {
     let mut missing = MAX_KEYS as u32;
     for look in 0..MAX_LOOKS {
@@ -265,7 +264,7 @@ fn takes_all_keys<R: Wait + Clock>(rt: &R, notices: &Notices) -> bool {
     false
 }
 
-// Whether no key is left to be taken. A word can still be marked whose keys were taken before it was.
+// A word can still be marked whose keys were taken before it was.
 fn are_all_taken(notices: &Notices) -> bool {
     for _ in 0..=MAX_WORDS {
         match notices.take_word(0) {
@@ -276,7 +275,7 @@ fn are_all_taken(notices: &Notices) -> bool {
     false
 }
 
-// Replies for all keys come in one thread while another takes them. Whether each was taken, and none is left.
+// One thread tells of replies for all keys while another takes them.
 fn are_taken_beside<R: Threads + Wait + Clock + Sync>(rt: &R, notices: &Notices) -> bool {
     let ((), takes_all) = thread::join(
         rt,

@@ -5,20 +5,18 @@ use resp_core::{Limits, Reader, Texts, Value};
 use std::alloc::Global;
 use std::test::Fail;
 
-// The pieces in which a bulk string of `abc` comes, and whether its payload lies in its text.
+// The pieces of a bulk string `abc`, and whether its payload lies in its text.
 const STREAMS: &[(&[&[u8]], bool)] = &[
     (&[b"$3\r\nabc\r\n"], true),
     // With bytes behind it.
     (&[b"$3\r\nabc\r\n$"], true),
     // Another spelling.
     (&[b"$03\r\nabc\r\n"], false),
-    // In pieces, each of which is looked at.
     (&[b"$3\r\nab", b"c\r\n"], false),
     (&[b"$", b"3\r\nabc\r\n"], false),
 ];
 
-// The first value of a stream that comes in these pieces: whether its payload and one that shares it lie in a text, and what is
-// written of it.
+// Whether the payload of the stream's first value, and one that shares it, lie in a text; and what is written of it.
 fn first_of(alloc: Global, pieces: &[&[u8]]) -> Result<(bool, Bytes), Fail> {
     let mut reader = Reader::new(alloc, Limits::HOST);
     for piece in pieces {
@@ -50,7 +48,6 @@ fn look(alloc: Global, value: &Value) -> Result<(bool, Bytes), Fail> {
     Ok((lies, Texts::new(alloc).text_of(value, value.text_len())?))
 }
 
-// A failure names the index of the stream.
 #[test]
 fn payloads_lie_in_texts_of_one_spelling(rt: HostRuntime) -> Result<(), Fail> {
     for (place, (pieces, expected)) in STREAMS.iter().enumerate() {
@@ -62,7 +59,6 @@ fn payloads_lie_in_texts_of_one_spelling(rt: HostRuntime) -> Result<(), Fail> {
     Ok(())
 }
 
-// The text of a bulk string of so many bytes.
 fn bulk_of(alloc: Global, len: usize) -> Result<Vec<u8>, Fail> {
     let mut text = Vec::new(alloc);
     text.push(b'$')?;

@@ -13,7 +13,6 @@ use std::test::Fail;
 
 const SPENT: EngineError = EngineError::TurnRefused(Denied::Spent);
 
-// A client's ends that read 20 bytes at a time.
 const PIECES: Ends = Ends {
     reads: u64::MAX,
     writes: u64::MAX,
@@ -21,8 +20,8 @@ const PIECES: Ends = Ends {
     writing: Ends::ALL,
 };
 
-// One client before three stubs, with turns of this ration, each refused step made again. The client gets all answers,
-// and only refused turns return errors. Returns the core at the end.
+// One client before three stubs. Each refused step is made again, the client gets all answers, and only refused turns
+// return errors. Returns the core at the end.
 fn run<Rt: Wait + AllocGlobal>(
     rt: &Rt,
     (text, answers): Exchange,
@@ -43,7 +42,6 @@ fn run<Rt: Wait + AllocGlobal>(
 
 const ENDED: &[Act] = &[Act::Steps(Progress::Ended, 1), Act::OnlyTold(SPENT)];
 
-// A run with turns of this ration equals one without a refusal.
 fn check_alike<Rt: Wait + AllocGlobal>(
     rt: &Rt,
     exchange: Exchange,
@@ -79,7 +77,7 @@ fn check_exchange<Rt: Wait + AllocGlobal>(rt: &Rt, exchange: Exchange) -> Result
     checked
 }
 
-// Refuses one turn, and six in a row, from each turn on: the answers and all steps are those of a run without a refusal.
+// Refuses one turn, and six in a row, from each turn on. All steps are those of a run without a refusal.
 #[test]
 fn refused_turns_are_made_again(rt: HostRuntime) -> Result<(), Fail> {
     for exchange in EXCHANGES {
@@ -91,7 +89,7 @@ fn refused_turns_are_made_again(rt: HostRuntime) -> Result<(), Fail> {
 // The first client's bytes, by the number of replies handed out.
 const HANDED: &[&[u8]] = &[b"", b"+OK\r\n", BOTH_ANSWERS];
 
-// Where all turns from one on are refused, the journal stays, and only handed replies are written.
+// All turns from this one on are refused: the journal stays, and only handed replies are written.
 fn check_stopped<Rt: Wait + AllocGlobal>(rt: &Rt, turn: u64) -> Result<(), Fault> {
     let opens = if turn > 1 {
         Act::Opens(Feed::Whole(SET_AND_MGET.0), PIECES)

@@ -33,7 +33,6 @@ impl Drop for Engine<'_> {
     }
 }
 
-// A reply is late after this many milliseconds.
 pub(crate) const REPLY_MS: u64 = 5_000;
 
 // A run ends after this many rounds without a move: a piece comes after a pause.
@@ -42,7 +41,7 @@ const QUIET_ROUNDS: u32 = 4;
 // The points of three hosts: `abc` belongs to host 0, `a` to host 1, and the empty key and `b` to host 2 and host 0.
 const POINTS: [(u32, usize); 3] = [(2_555_380_112, 0), (3_111_502_092, 1), (3_649_838_548, 2)];
 
-// The ends of a client: the bytes until each fails, and the most bytes a call.
+// The bytes until each end fails, and the most bytes a call.
 #[derive(Clone, Copy)]
 pub(crate) struct Ends {
     pub(crate) reads: u64,
@@ -61,7 +60,6 @@ impl Ends {
         writing: Ends::ALL,
     };
 
-    // The reader fails after `reads` bytes, and returns at most `reading` a call.
     pub(crate) fn reading(reads: usize, reading: usize) -> Ends {
         Ends {
             reads: reads as u64,
@@ -70,7 +68,6 @@ impl Ends {
         }
     }
 
-    // The writer fails after `writes` bytes, and takes at most `writing` a call.
     pub(crate) fn writing(writes: usize, writing: usize) -> Ends {
         Ends {
             writes: writes as u64,
@@ -80,12 +77,11 @@ impl Ends {
     }
 }
 
-// A host at the other end of a link.
 #[derive(Clone, Copy)]
 pub(crate) enum Peer {
     // A stub that is empty at first, and serves by these acts.
     Stub(&'static [Serves]),
-    // It sends the stage's text, whatever it is asked.
+    // It sends the stage's text whatever it is asked.
     Text,
 }
 
@@ -98,14 +94,12 @@ pub(crate) struct Link {
 }
 
 impl Link {
-    // One that never fails, to an empty stub.
     pub(crate) const STUB: Link = Link {
         to: Peer::Stub(&[]),
         reads: u64::MAX,
         writes: u64::MAX,
     };
 
-    // One that never fails, to a host that sends the stage's text.
     pub(crate) const TEXT: Link = Link {
         to: Peer::Text,
         reads: u64::MAX,
@@ -127,20 +121,21 @@ impl StepFailure {
     }
 }
 
-// The engines over their turns, the links for hosts, and the errors on the way.
 pub(crate) struct Rig<'a> {
     pub(crate) stage: &'a Stage,
     turns: Rationed,
     // The hosts, and behind them the clients.
     engines: Vec<Engine<'a>>,
     hosts: usize,
-    // The links for hosts, in this order, and the number given.
+    // The links for hosts, in this order.
     links: Vec<Link>,
+    // The number of links given.
     given: usize,
-    // The newest error of a client, and of a host.
+    // The newest error of a client.
     pub(crate) of_client: Option<StepFailure>,
+    // The newest error of a host.
     pub(crate) of_host: Option<StepFailure>,
-    // The length of the journal when it was last looked at.
+    // The length of the journal at the last look.
     pub(crate) seen: usize,
 }
 
@@ -163,7 +158,6 @@ impl Drop for Rig<'_> {
     }
 }
 
-// A core for at most three hosts, with the points above.
 fn core(alloc: Global, hosts: usize) -> Result<Core, EngineError>
     ensures { IfOk result (λ core. core.steps ≡ []) }
 {
@@ -175,7 +169,6 @@ fn core(alloc: Global, hosts: usize) -> Result<Core, EngineError>
 }
 
 impl<'a> Rig<'a> {
-    // Hosts without links and no client, over turns of this ration.
     pub(crate) fn new(
         alloc: Global,
         stage: &'a Stage,
@@ -234,7 +227,7 @@ impl<'a> Rig<'a> {
         }
     }
 
-    // Opens the connection of the next of two clients, which sends this. A refused turn is made again, once.
+    // Opens the connection of the next of two clients. A refused turn is made again, once.
     pub(crate) fn open<Rt: Wait + AllocGlobal>(
         &mut self,
         rt: &Rt,
@@ -254,7 +247,6 @@ impl<'a> Rig<'a> {
         }
     }
 
-    // Keeps a link for a host that asks for one, after those kept before.
     pub(crate) fn add_link(&mut self, link: Link) -> Result<(), EngineError> {
         self.links.push(link).or(Err(EngineError::NoMemory))
     }
@@ -280,7 +272,6 @@ impl<'a> Rig<'a> {
         turns.into_core()
     }
 
-    // The refusal of an event made by the test itself.
     pub(crate) fn refusal<Rt: Wait>(&mut self, rt: &Rt, event: Event) -> Option<Refusal> {
         let result = self.turns.turn(rt, event);
         let cause = match &result {
@@ -291,7 +282,6 @@ impl<'a> Rig<'a> {
         cause
     }
 
-    // Steps the engine at this index once at this moment, if there is one.
     fn step_at<Rt: Wait>(
         &mut self,
         rt: &Rt,
@@ -320,8 +310,8 @@ impl<'a> Rig<'a> {
         self.step_at(rt, 0, moment)
     }
 
-    // Steps each host and client once at this moment, and gives a host that needs a link the next one. False: none
-    // moved; a refused step is no move.
+    // Steps each host and client once, and gives a host that needs a link the next one. False: none moved. A refused
+    // step is no move.
     fn step<Rt: Wait + AllocGlobal>(&mut self, rt: &Rt, moment: u64) -> Result<bool, EngineError> {
         let mut has_moved = false;
         for engine in self.engines.iter_mut() {
@@ -395,7 +385,7 @@ fn attach<'a>(
     }
 }
 
-// The two ends of a link. Keeps the requests.
+// The stage keeps the requests.
 fn link_ends<'a>(
     alloc: Global,
     stage: &'a Stage,
@@ -420,7 +410,6 @@ fn link_ends<'a>(
     }
 }
 
-// The two ends of a link to an empty stub with these acts.
 pub(crate) fn stub(
     alloc: Global,
     acts: &[Serves],

@@ -4,10 +4,9 @@ use resp_core::{Limits, Reader};
 use std::alloc::Global;
 use std::test::Fail;
 
-// What has come, and how many bytes of it are given as one text.
+// A stream, and how many of its bytes are given as one text.
 const STREAMS: &[(&[u8], Option<usize>)] = &[
     (b"*2\r\n$3\r\nGET\r\n$1\r\na\r\n", Some(20)),
-    // Only the first of two.
     (b"*1\r\n$4\r\nPING\r\n*1\r\n$4\r\nPING\r\n", Some(14)),
     // No command of the table, and an empty name.
     (b"*1\r\n$1\r\n?\r\n", Some(11)),
@@ -26,16 +25,13 @@ const STREAMS: &[(&[u8], Option<usize>)] = &[
     // Another spelling.
     (b"*01\r\n$4\r\nPING\r\n", None),
     (b"*1\r\n$04\r\nPING\r\n", None),
-    // No words.
     (b"*0\r\n", None),
     (b"*1\r\n$-1\r\n", None),
     (b"*1\r\n:1\r\n", None),
     (b"+PING\r\n", None),
-    // Bytes that the reader refuses.
     (b"*1\r\n$4\r\nPING\n\r", None),
 ];
 
-// How many bytes of this stream are given as the first command's text.
 fn text_of(alloc: Global, stream: &[u8]) -> Result<Option<usize>, Fail> {
     let mut reader = Reader::new(alloc, Limits::CLIENT);
     if reader.feed(stream).is_err() {
@@ -48,7 +44,6 @@ fn text_of(alloc: Global, stream: &[u8]) -> Result<Option<usize>, Fail> {
     })
 }
 
-// A failure names the index of the stream.
 #[test]
 fn short_commands_are_given_as_texts(rt: HostRuntime) -> Result<(), Fail> {
     for (place, (stream, expected)) in STREAMS.iter().enumerate() {
@@ -59,7 +54,7 @@ fn short_commands_are_given_as_texts(rt: HostRuntime) -> Result<(), Fail> {
     Ok(())
 }
 
-// A GET whose key has this many bytes, of three digits.
+// The length of the key has three digits.
 fn get_of(alloc: Global, key: usize) -> Result<Vec<u8>, Fail> {
     let mut text = Vec::new(alloc);
     text.extend_from_slice(b"*2\r\n$3\r\nGET\r\n$")?;

@@ -17,7 +17,7 @@ impl Visitor {
     }
 }
 
-// Two clients, and the text of hosts that are no stubs. Requests over the first link are kept apart from later ones.
+// What two clients took, and what was asked over the first link and over later ones.
 pub(crate) struct Stage {
     pub(crate) first: Visitor,
     pub(crate) second: Visitor,

@@ -6,7 +6,7 @@ use std::test::Fail;
 use sweeper::{Pace, SweepRefusal, Swept, sweep_once};
 use ticket_gate::{Alone, Turns};
 
-// Fails this many links to host 0 at the moment 0. False: a turn was refused.
+// All links fail at the moment 0. False: a turn was refused.
 fn fail_links<R: Wait>(rt: &R, turns: &mut Alone<Core>, times: u64) -> bool {
     for epoch in 0..times {
         let failed = Event::Failed {
@@ -51,7 +51,7 @@ fn a_sweep_returns_the_host_at_its_time(rt: HostRuntime) -> Result<(), Fail> {
     Ok(())
 }
 
-// The pass and the moment of the newest step, if that is a sweep.
+// `None`: the newest step is no sweep.
 fn last_sweep(core: &Core) -> Option<(u64, u64)> {
     let journal = core.journal();
     let last = journal.get(journal.len().saturating_sub(1))?;

@@ -1,4 +1,4 @@
-// A client's requests, and the answers.
+// Requests and their answers.
 pub(crate) type Exchange = (&'static [u8], &'static [u8]);
 
 // A SET of 27 bytes and an MGET of 35.
@@ -9,19 +9,19 @@ pub(crate) const SET_AND_MGET: Exchange = (
 
 pub(crate) const BOTH_ANSWERS: &[u8] = b"+OK\r\n*3\r\n$1\r\n1\r\n$-1\r\n$1\r\n1\r\n";
 
-// Two PINGs of 14 bytes, and two answers of 7.
+// Two PINGs of 14 bytes; their answers have 7.
 pub(crate) const PINGS: Exchange = (
     b"*1\r\n$4\r\nPING\r\n*1\r\n$4\r\nPING\r\n",
     b"+PONG\r\n+PONG\r\n",
 );
 
-// Commands of keys that no other client has, and the answers to them.
+// No other client has these keys.
 pub(crate) const OTHER_KEYS: &[u8] =
     b"*3\r\n$3\r\nSET\r\n$3\r\nabc\r\n$1\r\n1\r\n*4\r\n$4\r\nMGET\r\n$3\r\nabc\r\n$0\r\n\r\n$3\r\nabc\r\n";
 
 pub(crate) const OTHER_ANSWERS: &[u8] = b"+OK\r\n*3\r\n$1\r\n1\r\n$-1\r\n$1\r\n1\r\n";
 
-// Local answers, one of a reader that refuses its bytes, a last command, and commands for one host and for several.
+// Local answers, a reader that refuses its bytes, a last command, and commands for one host and for several.
 pub(crate) const EXCHANGES: &[Exchange] = &[
     SET_AND_MGET,
     (
@@ -43,14 +43,12 @@ pub(crate) const EXCHANGES: &[Exchange] = &[
     ),
 ];
 
-// A GET of a key of host 1 of three, and of the only host.
+// The key belongs to host 1 of three.
 pub(crate) const GET: &[u8] = b"*2\r\n$3\r\nGET\r\n$1\r\na\r\n";
 
-// A SET of the same key.
 pub(crate) const SET: &[u8] = b"*3\r\n$3\r\nSET\r\n$1\r\na\r\n$1\r\n1\r\n";
 
 // The proxy's answer for a lost part.
 pub(crate) const FAILURE: &[u8] = b"-upstream failure\r\n";
 
-// A host's answer to a GET of a missing key.
 pub(crate) const NOTHING: &[u8] = b"$-1\r\n";

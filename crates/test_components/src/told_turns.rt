@@ -11,7 +11,7 @@ use std::sync::Arc;
 use std::test::Fail;
 use ticket_gate::Recorded;
 
-// The keys of the clients of connections 0 and 1: the first is worker 1's, the second worker 0's.
+// Connection 0's client is worker 1's, connection 1's is worker 0's.
 const KEYS: [usize; 2] = [3, 69];
 
 // What the two workers hear of a turn. The only host is worker 0's.
@@ -24,7 +24,6 @@ enum Heard {
     Reply(usize),
     // Both hear that any client may be ready.
     Replies,
-    // Something else.
     Other,
 }
 
@@ -49,17 +48,15 @@ const MOVES: &[(Move, Heard)] = &[
     (Move::Closes(0), Heard::Nothing),
     // A reply to nobody.
     (Move::IsAnswered, Heard::Nothing),
-    // A command that isn't accepted.
     (Move::Gets(0), Heard::Nothing),
     (Move::Gets(1), Heard::Parts),
     (Move::Fails, Heard::Replies),
     // The fault emptied the queue.
     (Move::Gets(1), Heard::Parts),
-    // A fault of a link before this one.
     (Move::Fails, Heard::Nothing),
 ];
 
-// A core with one host, whose turns tell two workers.
+// One host and two workers.
 fn counted(alloc: Global) -> Result<(TalliedCore, Arc<Notices>), Fail> {
     let notices = Arc::new(alloc, Notices::new(alloc, 2)?)?;
     notices.add_client(0, 1, KEYS[0]);
@@ -94,7 +91,6 @@ fn take_news(notices: &Notices) -> Heard {
     }
 }
 
-// A failure names the index of the move.
 #[test]
 fn turns_tell_whom_they_concern(rt: HostRuntime) -> Result<(), Fail> {
     let (mut counted, notices) = counted(rt.alloc())?;
@@ -109,7 +105,7 @@ fn turns_tell_whom_they_concern(rt: HostRuntime) -> Result<(), Fail> {
     Ok(())
 }
 
-// The client of connection 0 asks this many times. Then these hosts are pressed.
+// The hosts that are pressed after connection 0 asked this many times.
 fn pressed_after(
     alloc: Global,
     counted: &mut TalliedCore,
@@ -126,10 +122,10 @@ fn pressed_after(
 // The hosts that are pressed.
 #[derive(Clone, Copy, PartialEq, Eq, Drop)]
 struct Pressed {
-    // One part before the host's worker has too many unseen, and at that part.
+    // At one part before the worker has too many unseen.
     before: u64,
+    // At that part.
     at: u64,
-    // Whether the worker's look changes it.
     until_seen: bool,
 }
 
@@ -163,7 +159,7 @@ fn a_host_is_pressed_by_parts_that_its_worker_has_not_seen(rt: HostRuntime) -> R
     let first = pressed_once(alloc, &mut counted, &notices)?;
     let second = pressed_once(alloc, &mut counted, &notices)?;
     pressed_after(alloc, &mut counted, &notices, MAX_UNSEEN - 1)?;
-    // A part that its worker takes shows that it looks.
+    // The worker takes a part, which shows that it looks.
     turn(&mut counted, Event::Taken { host: 0 });
     let after = pressed_after(alloc, &mut counted, &notices, 1)?;
     drop(counted);

@@ -7,7 +7,7 @@ use proxy_core::{Answer, Core, CoreTurns, Event, Refusal};
 use std::sync::Wait;
 use ticket_gate::{Alone, TurnRefusal, Turns};
 
-// The turns that are refused: this many from the first on, counted from 1.
+// This many turns are refused from the first on, counted from 1.
 #[derive(Clone, Copy)]
 pub(crate) struct Ration {
     first: u64,
@@ -15,7 +15,6 @@ pub(crate) struct Ration {
 }
 
 impl Ration {
-    // No turn is refused.
     pub(crate) const FREE: Ration = Ration {
         first: 0,
         refused: 0,
@@ -30,7 +29,6 @@ impl Ration {
     }
 }
 
-// Turns on a core, some of which are refused.
 #[derive(Drop)]
 pub(crate) struct Rationed {
     alone: Alone<Core>,
@@ -68,13 +66,12 @@ impl Turns for Rationed {
 
     type Home = ();
 
-    ghost home = { λ t. tt };
-
-    ghost pass = { λ t. t.alone.pass };
-
-    ghost seen = { λ t. journal_of t.alone.state };
-
-    ghost setting = { λ t. made_with t.alone.state };
+    ghost facts = { λ t. record {
+      home = tt;
+      pass = t.alone.pass;
+      setting = made_with t.alone.state;
+      seen = journal_of t.alone.state;
+    } };
 
     ghost legal = { IsLegalJournal };
 

@@ -13,14 +13,12 @@ use ticket_gate::Alone;
 
 const MAX_LOOKS: u32 = 1_000_000;
 
-// A reader's end after its text.
 #[derive(Clone, Copy, Debug, PartialEq, Eq)]
 enum Then {
     Ends,
     Fails,
 }
 
-// Where two readers meet, and the number of bytes that their writers took.
 #[derive(Drop)]
 struct MeetingPoint {
     first_is_here: AtomicBool,
@@ -38,7 +36,7 @@ impl MeetingPoint {
     }
 }
 
-// Waits until the flag is up, with a yield after each look. False: it never was.
+// It yields after each look. False: the flag never was up.
 fn rises(flag: &AtomicBool) -> bool {
     for _ in 0..MAX_LOOKS {
         if flag.load(SeqCst) {
@@ -49,7 +47,7 @@ fn rises(flag: &AtomicBool) -> bool {
     false
 }
 
-// Returns its text only once the other reader is here too, and fails if that never comes.
+// It returns its text only once the other reader is here, and fails if that never comes.
 #[derive(Drop)]
 struct Meeting<'a> {
     point: &'a MeetingPoint,
@@ -104,7 +102,6 @@ impl Write for Counter<'_> {
 
 type Client<'a> = ClientWork<Alone<Core>, Tallied<Meeting<'a>>, Tallied<Counter<'a>>>;
 
-// A client that sends a PING, on a core of its own.
 fn client<'a, R: Wait>(
     rt: &R,
     alloc: Global,
@@ -137,7 +134,7 @@ fn clients<'a, R: Wait>(
     Ok(works)
 }
 
-// Works that ran one after another would not meet, and the first one would report a failed reader.
+// Works that ran one after another would not meet, and the first would report a failed reader.
 #[test]
 fn two_workers_meet(rt: HostRuntime) -> Result<(), Fail> {
     let point = MeetingPoint::new();

@@ -172,14 +172,12 @@ fn listed(alloc: Global, truths: &[bool]) -> Result<String> {
     Ok(text)
 }
 
-// The number of hosts, and the settings in their order.
 fn rules_text(alloc: Global, ejector: &Ejector) -> Result<String> {
     let rules = ejector.rules();
     let fault = rules.first_fault();
     shown(alloc, format_args!("{rules:?}, fault {fault:?}"))
 }
 
-// The error's number and name, and the field by its key.
 fn error_text(alloc: Global, error: EjectError) -> Result<String> {
     match error {
         EjectError::BadSettings { field } => bad_settings(alloc, error.number(), field),

@@ -27,7 +27,6 @@ fn told(alloc: Global, line: &str) -> Result<String> {
     }
 }
 
-// The line without its end, or the words of the error.
 fn told_of(alloc: Global, bytes: &[u8]) -> Result<String> {
     match checked(alloc, bytes)? {
         Ok(line) => escaped(alloc, line.as_bytes()),
@@ -53,7 +52,6 @@ fn many_values(alloc: Global, words: &str) -> Result<String> {
     series.text()
 }
 
-// The result for a file with one host, and this value at this key.
 fn told_with(alloc: Global, key: &str, value: &str) -> Result<String> {
     let file = format!(in alloc; "{{\"hosts\":[\"127.0.0.1:7001\"],\"{key}\":{value}}}")?;
     told_of(alloc, file.as_bytes())

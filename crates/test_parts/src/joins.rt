@@ -6,7 +6,6 @@ use anyhow::Result;
 use splitter::Join;
 use test_rows::text::unknown;
 
-/// The join of this name.
 pub(crate) fn join_of(name: &str) -> Result<Join> {
     match name {
         "Same" => Ok(Join::Same),
@@ -17,7 +16,6 @@ pub(crate) fn join_of(name: &str) -> Result<Join> {
     }
 }
 
-/// Whether this many values may be joined.
 pub(crate) fn may_join(how: Join, values: usize) -> bool
     ensures { IsTrue result → MayJoin how values }
 {

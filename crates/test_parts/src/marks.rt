@@ -9,7 +9,7 @@ use test_rows::numbers::Numbers;
 use test_rows::shown::shown;
 use test_rows::text::{first_word, number};
 
-// Sums of the results and sweeps, and a number that mixes in each answer and each state on the way.
+// Sums of results and sweeps, and a number that mixes in each answer and state.
 #[derive(Clone, Copy)]
 struct Tally {
     results: [u64; 3],
@@ -44,7 +44,7 @@ impl Tally {
         }
     }
 
-    // Makes one mark: a sweep, or a result of a host. Hosts with higher numbers fail more often.
+    // Hosts with higher numbers fail more often.
     fn take(&mut self, ejector: &mut Ejector, numbers: &mut Numbers, moment: u64) {
         if numbers.below(20) == 0 {
             match ejector.sweep(moment) {
@@ -83,7 +83,6 @@ impl Tally {
         }
     }
 
-    // Adds the ejector's present state of each host.
     fn look(&mut self, ejector: &Ejector) {
         self.add(u32::from(ejector.in_panic()));
         for host in 0..ejector.rules().hosts {

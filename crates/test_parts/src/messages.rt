@@ -13,7 +13,6 @@ use stub_server::StubError;
 use test_rows::again;
 use upstream_pipe::PipeRefusal;
 
-// The refusals' numbers and texts.
 macro_rules! messages {
     ($alloc:expr, $($refusal:expr),+) => {
         listed($alloc, &[$(($refusal.number(), $refusal)),+])

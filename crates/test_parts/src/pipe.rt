@@ -24,7 +24,6 @@ pub(crate) fn act(alloc: Global, pipe: &mut Pipe, line: &str) -> Result<String> 
     }
 }
 
-// Actions that don't change the pipe.
 fn told(alloc: Global, pipe: &Pipe, verb: &str) -> Result<String> {
     match verb {
         "epoch" => shown(alloc, pipe.epoch()),
@@ -81,7 +80,6 @@ fn fault(alloc: Global, pipe: &mut Pipe, epoch: u64) -> Result<String> {
     }
 }
 
-// The part of these words: its owner's numbers and its text.
 fn part_of(alloc: Global, words: &str) -> Result<Part> {
     let (connection, rest) = first_word(words);
     let (command, rest) = first_word(rest);
@@ -95,7 +93,7 @@ fn part_of(alloc: Global, words: &str) -> Result<Part> {
     Ok(Part { owner, text })
 }
 
-// An owner as it is printed; `None` once it is forgotten.
+// `None`: the owner is forgotten.
 #[derive(Clone, Copy)]
 struct Shown(Option<Owner>);
 
@@ -130,7 +128,6 @@ fn back(alloc: Global, refusal: PipeRefusal, part: Part) -> Result<String> {
     shown(alloc, format_args!("{refusal}, back comes {part}"))
 }
 
-// The owners of the parts that flew and that waited.
 fn lost_text(alloc: Global, lost: Lost) -> Result<String> {
     let flying = again!(flying_text(alloc, lost.flying.as_slice()))?;
     let waiting = again!(waiting_text(alloc, lost.waiting.as_slice()))?;

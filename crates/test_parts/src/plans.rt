@@ -31,7 +31,7 @@ fn told(alloc: Global, line: &str) -> Result<String> {
     }
 }
 
-// The plan of a request, and of the same one as its text if it is a short command. Both must be the same.
+// The plan of a request, and of its text if it is a short command. Both must be the same.
 fn planned(alloc: Global, request: Request) -> Result<String> {
     let by_value = planned_as(alloc, &request);
     let short = match &request {
@@ -86,7 +86,6 @@ fn own_answer(alloc: Global, plan: &str, local: Local, value: &Value) -> Result<
     shown(alloc, format_args!("{plan} {local:?} {text}"))
 }
 
-// The join, and the key and the text of each part.
 fn parts_text(alloc: Global, how: Join, parts: &[PartPlan]) -> Result<String> {
     let mut text = format!(in alloc; "Parts {how:?}")?;
     match parts {

@@ -60,7 +60,6 @@ fn set(alloc: Global, queue: &mut Queue, words: &str) -> Result<String> {
     shown(alloc, if is_set { "set" } else { "not open" })
 }
 
-// Gives an open part its value; it is then no longer open.
 fn give(queue: &mut Queue, command: u64, part: u32, value: Value) -> bool {
     if !queue.is_open(command, part) {
         drop(value);
@@ -70,7 +69,7 @@ fn give(queue: &mut Queue, command: u64, part: u32, value: Value) -> bool {
     !queue.is_open(command, part)
 }
 
-// Sets all parts. The queue must not be ready before the last one is set.
+// The queue must not be ready before the last part is set.
 fn set_all(alloc: Global, queue: &mut Queue, words: &str) -> Result<String> {
     let (command, rest) = first_word(words);
     let (parts, text) = first_word(rest);
@@ -81,7 +80,6 @@ fn set_all(alloc: Global, queue: &mut Queue, words: &str) -> Result<String> {
     shown(alloc, format_args!("{} set", given?))
 }
 
-// The number of parts that took the value.
 fn give_all(
     alloc: Global,
     queue: &mut Queue,
@@ -144,7 +142,6 @@ fn is_popped(queue: &mut Queue) -> bool {
     is_popped
 }
 
-// A reply in its one spelling, or the word for none.
 fn told(alloc: Global, answer: Result<Option<Value>, QueueRefusal>) -> Result<String> {
     match answer {
         Ok(reply) => spelled_or_nothing(alloc, reply),

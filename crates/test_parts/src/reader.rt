@@ -45,7 +45,6 @@ impl ReaderSubject {
         }
     }
 
-    // Actions that don't change the row's reader.
     fn told(&self, alloc: Global, verb: &str, rest: &str) -> Result<String> {
         match verb {
             "held" => shown(alloc, format_args!("{} bytes", self.reader.held())),
@@ -73,8 +72,8 @@ impl ReaderSubject {
         }
     }
 
-    // Reads a stream whole, in pieces of several lengths, and a short one also cut in two at each place; and once more with
-    // short commands as their texts. All must give the same.
+    // Reads a stream whole, in pieces of several lengths, a short one cut in two at each place, and with short commands
+    // as their texts. All must give the same.
     fn read(&self, alloc: Global, words: &str) -> Result<String> {
         let stream = stream_of(alloc, words)?;
         let stream = stream.as_slice();
@@ -90,7 +89,6 @@ impl ReaderSubject {
         Ok(told)
     }
 
-    // A piece length for which the stream reads differently.
     fn differing_length(
         &self,
         alloc: Global,
@@ -107,7 +105,6 @@ impl ReaderSubject {
         Ok(None)
     }
 
-    // A place such that the stream, cut in two there, reads differently.
     fn differing_place(
         &self,
         alloc: Global,
@@ -151,7 +148,7 @@ impl ReaderSubject {
     }
 }
 
-// The piece lengths to read a stream of this many bytes in: a long one is cut into few pieces.
+// A long stream is cut into few pieces.
 fn piece_lengths(bytes: usize) -> &'static [usize] {
     match bytes {
         0..=1_000 => &[1, 2, 7, 1_000],
@@ -160,16 +157,14 @@ fn piece_lengths(bytes: usize) -> &'static [usize] {
     }
 }
 
-// The number of places to cut a stream of this many bytes at.
 fn places(bytes: usize) -> usize {
     if bytes <= SHOWN { bytes } else { 0 }
 }
 
-// A reader, and what it made of a stream: the spellings of its values, and then the refusal, if there was one.
+// What a reader made of a stream: the spellings of its values, and then the refusal, if any.
 #[derive(Drop)]
 struct Reading {
     reader: Reader,
-    // Whether short commands are read as their texts.
     as_texts: bool,
     written: Vec<u8>,
     refusal: Option<RespError>,
@@ -185,7 +180,6 @@ impl Reading {
         }
     }
 
-    // The result of the stream in pieces of this length.
     fn of_pieces(&mut self, alloc: Global, stream: &[u8], length: usize) -> Result<String> {
         for piece in stream.chunks(length.max(1)) {
             self.take_piece(alloc, piece)?;
@@ -193,7 +187,6 @@ impl Reading {
         self.text(alloc, stream)
     }
 
-    // The result of the stream cut in two at this place.
     fn of_two(&mut self, alloc: Global, stream: &[u8], place: usize) -> Result<String> {
         let (front, back) = stream.split_at(place.min(stream.len()));
         self.take_piece(alloc, front)?;
@@ -209,7 +202,7 @@ impl Reading {
         }
     }
 
-    // Takes the values that have come: at most one more than the piece has bytes.
+    // There is at most one more value than the piece has bytes.
     fn take_values(&mut self, alloc: Global, most: usize) -> Result<()> {
         for _ in 0..=most {
             if self.as_texts && self.take_text()? {
@@ -227,7 +220,7 @@ impl Reading {
         Ok(())
     }
 
-    // Takes the next value if it is read as its text. True: it was.
+    // True: the next value was read as its text.
     fn take_text(&mut self) -> Result<bool> {
         let Some(command) = again!(self.reader.next_spelled())? else {
             return Ok(false);
@@ -238,7 +231,7 @@ impl Reading {
         Ok(true)
     }
 
-    // Writes a value that shares its bytes with the reader's.
+    // The value shares its bytes with the reader's.
     fn write(&mut self, alloc: Global, value: Value) -> Result<()> {
         let shared = value.share(alloc);
         drop(value);
@@ -255,7 +248,7 @@ impl Reading {
         Ok(())
     }
 
-    // The values, by their length if they are long, and then the refusal.
+    // The refusal comes last.
     fn text(&self, alloc: Global, stream: &[u8]) -> Result<String> {
         match self.refusal {
             Some(refusal) => {
@@ -267,7 +260,6 @@ impl Reading {
         }
     }
 
-    // The values, if any, and then the refusal.
     fn text_and(&self, alloc: Global, stream: &[u8], refusal: String) -> Result<String> {
         if self.written.is_empty() {
             return Ok(refusal);

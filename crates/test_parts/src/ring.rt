@@ -31,7 +31,7 @@ fn told(alloc: Global, ring: &mut Option<Ring>, line: &str) -> Result<String> {
     }
 }
 
-// Keeps a ring, and returns its hosts and digests, or the reason why there is none.
+// Returns its hosts and digests, or why there is no ring.
 fn keep(
     alloc: Global,
     kept: &mut Option<Ring>,
@@ -66,7 +66,6 @@ fn key(alloc: Global, ring: &Option<Ring>, word: &str) -> Result<String> {
     )
 }
 
-// The owner of a point while these hosts are out.
 fn owner_without(
     alloc: Global,
     ring: &Option<Ring>,
@@ -81,7 +80,6 @@ fn owner_without(
     Ok(ring.owner(point, usable.as_slice()))
 }
 
-// Puts hosts out by the words `out HOST ..`.
 fn put_out(usable: &mut [bool], words: &str) -> Result<()> {
     for word in words.split_whitespace().skip(1) {
         let host: usize = number(word)?;
@@ -126,7 +124,7 @@ fn built_ring(alloc: Global, words: &str) -> Result<Result<Ring, RingError>> {
     with_memory(Ring::build(alloc, names.as_slice(), weights.as_slice()))
 }
 
-// The names of a list `NAME,..`, or of `none`.
+// The text is a list `NAME,..`, or `none`.
 fn names_of(alloc: Global, text: &str) -> Result<Vec<HostName>> {
     let mut names = Vec::new(alloc);
     if text == "none" {
@@ -138,7 +136,7 @@ fn names_of(alloc: Global, text: &str) -> Result<Vec<HostName>> {
     Ok(names)
 }
 
-// The ring of hosts `host-0`, `host-1` and so on, all of one weight.
+// The hosts are `host-0`, `host-1` and so on, all of one weight.
 fn equal_ring(alloc: Global, words: &str) -> Result<Result<Ring, RingError>> {
     let (hosts, weight) = first_word(words);
     let weights = vec![in alloc; number(weight)?; number(hosts)?]?;

@@ -40,7 +40,7 @@ pub(crate) fn values_of(alloc: Global, text: &str) -> Result<Vec<Value>> {
     values
 }
 
-// The values that have come: at most one for each byte.
+// There is at most one value for each byte.
 fn all_values(alloc: Global, reader: &mut Reader, most: usize) -> Result<Vec<Value>> {
     let mut values = Vec::new(alloc);
     for _ in 0..most {

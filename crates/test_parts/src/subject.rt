@@ -1,5 +1,3 @@
-//! The subject of a row: a part of the proxy.
-
 use crate::reader::ReaderSubject;
 use crate::{ejection, files, journal, messages, pipe, plans, queue, rates, ring, stub, table};
 use anyhow::{Result, bail};
@@ -13,8 +11,8 @@ use test_rows::subject::Subject;
 use test_rows::text::{first_word, unknown};
 use upstream_pipe::Pipe;
 
-/// The part that a row's actions are made on. Those with a state are boxed, so that a subject's size doesn't depend on the
-/// largest.
+/// The part that a row's actions are made on. It is empty at first. One with a state is boxed, so that a subject's size
+/// doesn't depend on the largest.
 #[derive(Drop)]
 pub enum PartSubject {
     /// A reader of a stream, and values.
@@ -23,13 +21,13 @@ pub enum PartSubject {
     Table,
     /// Plans and joins.
     Plans,
-    /// A connection's queue, which is empty at first.
+    /// A connection's queue.
     Queue(Box<Queue>),
-    /// A host's pipe, which is empty at first.
+    /// A host's pipe.
     Pipe(Box<Pipe>),
-    /// A journal, which is empty at first. Its events and answers are numbers here.
+    /// A journal.
     Journal(Box<Journal<u64, u64>>),
-    /// The host in memory, which has no keys at first.
+    /// The host in memory.
     Stub(Box<Stub>),
     /// The row's latest ring, and keys.
     Ring(Box<Option<Ring>>),
@@ -75,7 +73,6 @@ impl Subject for PartSubject {
 }
 
 impl PartSubject {
-    // The part of this name, which has a state.
     fn with_state(alloc: Global, name: &str, arguments: &str) -> Result<PartSubject> {
         Ok(match name {
             "reader" => PartSubject::Reader(boxed(alloc, ReaderSubject::open(alloc, arguments)?)?),

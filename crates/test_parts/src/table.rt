@@ -18,7 +18,7 @@ pub(crate) fn act(alloc: Global, line: &str) -> Result<String> {
     }
 }
 
-// A name's entry: its kind, its name in the table, and its numbers.
+// The kind of a name, its name in the table, and its numbers.
 fn entry_text(alloc: Global, word: &str) -> Result<String> {
     let name = word_bytes(alloc, word)?;
     match look(name.as_slice()) {

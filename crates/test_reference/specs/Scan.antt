@@ -17,6 +17,7 @@ use Rattle.test_reference.specs.declared.scan.Wanted.{Wanted}
 use Rattle.test_reference.specs.declared.scan.Wanted.TheVariants as wanted
 use Rattle.test_reference.specs.declared.part.Part.{Part as Part'}
 use Rattle.test_reference.specs.declared.part.AtOnce.{AtOnce}
+use Rattle.test_reference.specs.declared.replay.Past.{Past as Past'}
 use Rattle.test_reference.specs.declared.replay.Replay.{Replay}
 use Rattle.test_reference.specs.declared.part.AtOnce.TheVariants as at_once
 
@@ -73,6 +74,10 @@ parts_of ps = map part_of ps
 -- A history with what the plain program keeps of it. The marks are in the ejector's state, and no list of them is kept.
 abbrev pub past_of_scan : List Step → List Mark → Replay → Past
 past_of_scan steps marks r = record { steps = history_of steps; parts = parts_of r.parts.items; sent = parts_of r.sent.items; marks = marks }
+
+-- the same, where steps and what is kept of them stand together
+abbrev pub past_seen : Past' → List Mark → Past
+past_seen p marks = past_of_scan p.steps.now marks p.replay.now
 
 -- What is kept of a history is what the history determines.
 pub record Shows (S : Setting) (H : History) (r : Replay) : Type 0 where

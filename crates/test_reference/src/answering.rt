@@ -5,54 +5,47 @@ ghost use Rattle.ejector.specs.State.{State};
 ghost use Rattle.ejector.specs.Ejection.{state, trip as trip_after};
 ghost use Rattle.ejector.specs.Ejector.{result_mark};
 ghost use Rattle.proxy_history.specs.Setting.{Setting};
-ghost use Rattle.proxy_history.specs.Part.{Past};
+ghost use Rattle.proxy_history.specs.Part.{Past as HistoryPast};
 ghost use Rattle.proxy_history.specs.Legal.{IsLegal};
 ghost use Rattle.proxy_history.specs.Answer.{answer_to, accepts, is_hostless, is_busy};
-ghost use Rattle.test_reference.specs.Scan.{Shows, history_of, parts_of, past_of_scan};
+ghost use Rattle.test_reference.specs.Scan.{Shows, history_of, parts_of, past_of_scan, past_seen};
 ghost use Rattle.proxy_history.specs.declared.event.Event.TheVariants.{Arrived, Taken, Answered, Failed, Swept, Handed};
 ghost use Rattle.resp_core.specs.declared.value.Value.{Value};
 
-use crate::arrival::placed_parts;
+use crate::arrival::{Keys, placed_parts};
 use crate::part::Part;
 use crate::pipe::{first_waiting, flying, sent, waiting};
-use crate::replay::{Replay, is_excused};
+use crate::replay::{Past, Replay, is_excused};
 use crate::scan::{Turn, Wanted, times};
 use crate::value::outcome;
 use bytes::Bytes;
 use ejector::{Ejector, Trip};
-use ketama::Ring;
 use proxy_history::{Answer, Kind};
 use resp_core::put_text;
 use splitter::{Local, Plan, Request, plan};
 use std::alloc::{AllocError, Global};
 
-/// The answer to a request that arrives.
 pub(crate) fn accepted(
     alloc: Global,
-    ring: &Ring,
-    tags: bool,
-    steps: &[Turn],
-    replay: &Replay,
+    keys: &Keys<'_>,
+    past: &Past<'_>,
     conn: u64,
     request: &Request,
 ) -> Result<Answer, AllocError>
-    requires hosts { ring.now.hosts ≡ replay.now.ejector.rules.hosts }
-    requires tags { tags ≡ replay.now.ejector.rules.settings.tags }
-    ensures { IfOk result (λ answer. (S : Setting) (marks : List Mark) → S.ring ≡ ring.now
-        → S.rules ≡ replay.now.ejector.rules
-        → replay.now.ejector.state ≡ state S.rules S.opening marks
-        → answer ≡ answer_to S (past_of_scan steps.now marks replay.now)
-        (Arrived conn request.now)) }
+    requires hosts { keys.now.ring.now.hosts ≡ past.now.replay.now.ejector.rules.hosts }
+    requires tags { keys.now.tags ≡ past.now.replay.now.ejector.rules.settings.tags }
+    ensures { IfOk result (λ answer. (S : Setting) (marks : List Mark) → S.ring ≡ keys.now.ring.now
+        → S.rules ≡ past.now.replay.now.ejector.rules
+        → past.now.replay.now.ejector.state ≡ state S.rules S.opening marks
+        → answer ≡ answer_to S (past_seen past.now marks) (Arrived conn request.now)) }
 {
-    let index = times(steps, Wanted::Arrival(conn));
+    let index = times(past.steps, Wanted::Arrival(conn));
     let Ok(plan) = plan(alloc, request) else {
         return Err(AllocError);
     };
     let answer = match &plan {
         Plan::Here(name, _) | Plan::Leave(name, _) => Ok(own(index, *name)),
-        Plan::Parts { list, .. } => match placed_parts(
-            alloc, ring, tags, steps, replay, conn, list,
-        ) {
+        Plan::Parts { list, .. } => match placed_parts(alloc, keys, past, conn, list) {
             Ok(placed) => Ok(counted(index, &placed)),
             Err(refused) => Err(refused),
         },
@@ -61,7 +54,6 @@ pub(crate) fn accepted(
     answer
 }
 
-// A command that the proxy answers itself.
 fn own(index: u64, name: Local) -> Answer
     ensures { result ≡ accepts index (Some name) [] }
 {
@@ -74,7 +66,6 @@ fn own(index: u64, name: Local) -> Answer
     }
 }
 
-// A command with these parts.
 fn counted(index: u64, placed: &[Part]) -> Answer
     ensures { result ≡ accepts index None (parts_of placed.now) }
 {
@@ -87,14 +78,12 @@ fn counted(index: u64, placed: &[Part]) -> Answer
     }
 }
 
-// The number of parts without a host.
 fn hostless(placed: &[Part]) -> u64
     ensures { result ≡ count_by is_hostless (parts_of placed.now) }
 {
     placed.iter().filter(|part| part.host.is_none()).count() as u64
 }
 
-// The number of parts whose host had too many waiting.
 fn busy(placed: &[Part]) -> u64
     ensures { result ≡ count_by is_busy (parts_of placed.now) }
 {
@@ -104,7 +93,6 @@ fn busy(placed: &[Part]) -> u64
         .count() as u64
 }
 
-/// The answer where a part is taken.
 pub(crate) fn taken(
     alloc: Global,
     steps: &[Turn],
@@ -126,10 +114,9 @@ pub(crate) fn taken(
     })
 }
 
-/// The answer to a reply.
 pub(crate) fn matched(ejector: &mut Ejector, host: usize, t: u64) -> Result<Answer, AllocError>
     requires { host < ejector.old.rules.hosts }
-    ensures { IfOk result (λ answer. (S : Setting) (x : Past) (epoch : ℕ) (value : Value)
+    ensures { IfOk result (λ answer. (S : Setting) (x : HistoryPast) (epoch : ℕ) (value : Value)
         → S.rules ≡ ejector.old.rules
         → ejector.old.state ≡ state S.rules S.opening x.marks
         → answer ≡ answer_to S x (Answered host epoch value t)) }
@@ -139,7 +126,6 @@ pub(crate) fn matched(ejector: &mut Ejector, host: usize, t: u64) -> Result<Answ
     })
 }
 
-// The effect of a result on its host.
 fn trip(ejector: &mut Ejector, host: usize, ok: bool, t: u64) -> Result<Trip, AllocError>
     requires { host < ejector.old.rules.hosts }
     ensures { IfOk result (λ trip. (O : State) (marks : List Mark)
@@ -152,7 +138,6 @@ fn trip(ejector: &mut Ejector, host: usize, ok: bool, t: u64) -> Result<Trip, Al
     }
 }
 
-/// The answer to a fault.
 pub(crate) fn lost(
     steps: &[Turn],
     replay: &mut Replay,
@@ -176,9 +161,8 @@ pub(crate) fn lost(
     Ok(Answer::Lost { parts, trip })
 }
 
-/// The answer to a sweep.
 pub(crate) fn swept(ejector: &mut Ejector, t: u64) -> Result<Answer, AllocError>
-    ensures { IfOk result (λ answer. (S : Setting) (x : Past) → S.rules ≡ ejector.old.rules
+    ensures { IfOk result (λ answer. (S : Setting) (x : HistoryPast) → S.rules ≡ ejector.old.rules
         → ejector.old.state ≡ state S.rules S.opening x.marks → answer ≡ answer_to S x (Swept t)) }
 {
     match ejector.sweep(t) {
@@ -191,7 +175,6 @@ pub(crate) fn swept(ejector: &mut Ejector, t: u64) -> Result<Answer, AllocError>
     }
 }
 
-/// The answer that hands out the next reply of a connection: its text.
 pub(crate) fn handed_out(
     alloc: Global,
     steps: &[Turn],

@@ -9,11 +9,11 @@ ghost use Rattle.proxy_history.specs.Setting.{Setting, max_waiting};
 ghost use Rattle.proxy_history.specs.History.{accepted_count, epoch};
 ghost use Rattle.proxy_history.specs.Part.{is_of};
 ghost use Rattle.proxy_history.specs.Arrival.{parts_placed, usable_flags, with_host, hostless, before_it, proxy_busy};
-ghost use Rattle.test_reference.specs.Scan.{history_of, part_of, parts_of, past_of_scan, value_at_once};
+ghost use Rattle.test_reference.specs.Scan.{history_of, part_of, parts_of, past_of_scan, past_seen, value_at_once};
 
 use crate::part::{AtOnce, Part};
 use crate::pipe::{is_of, waiting};
-use crate::replay::Replay;
+use crate::replay::{Past, Replay};
 use crate::scan::{Turn, Wanted, times};
 use ejector::Ejector;
 use ketama::{Ring, point_of_key};
@@ -21,33 +21,50 @@ use limits::{MAX_HOSTS, MAX_WAITING};
 use splitter::{PartPlan, PartPlans};
 use std::alloc::{AllocError, Global};
 
-/// Places the parts of the connection's command one after another. `tags` says whether a key with a tag is placed by
-/// the tag alone.
+#[derive(Clone, Copy)]
+pub(crate) struct Keys<'a> {
+    pub ring: &'a Ring,
+    // Whether a key with a tag is placed by the tag alone.
+    pub tags: bool,
+}
+
+// Keys, where only these hosts are usable.
+#[derive(Clone, Copy)]
+struct Owners<'a> {
+    ring: &'a Ring,
+    tags: bool,
+    usable: &'a [bool],
+}
+
+#[derive(Clone, Copy)]
+struct CommandPlace {
+    conn: u64,
+    command: u64,
+}
+
 pub(crate) fn placed_parts(
     alloc: Global,
-    ring: &Ring,
-    tags: bool,
-    steps: &[Turn],
-    replay: &Replay,
+    keys: &Keys<'_>,
+    past: &Past<'_>,
     conn: u64,
     list: &PartPlans,
 ) -> Result<Vec<Part>, AllocError>
-    requires hosts { ring.now.hosts ≡ replay.now.ejector.rules.hosts }
-    requires tags { tags ≡ replay.now.ejector.rules.settings.tags }
-    ensures { IfOk result (λ parts. (S : Setting) (marks : List Mark) → S.ring ≡ ring.now
-        → S.rules ≡ replay.now.ejector.rules
-        → replay.now.ejector.state ≡ state S.rules S.opening marks
+    requires hosts { keys.now.ring.now.hosts ≡ past.now.replay.now.ejector.rules.hosts }
+    requires tags { keys.now.tags ≡ past.now.replay.now.ejector.rules.settings.tags }
+    ensures { IfOk result (λ parts. (S : Setting) (marks : List Mark) → S.ring ≡ keys.now.ring.now
+        → S.rules ≡ past.now.replay.now.ejector.rules
+        → past.now.replay.now.ejector.state ≡ state S.rules S.opening marks
         → parts_of parts.items
-        ≡ parts_placed S (past_of_scan steps.now marks replay.now) conn
-        (accepted_count conn (history_of steps.now)) [] list.now) }
+        ≡ parts_placed S (past_seen past.now marks) conn
+        (accepted_count conn (history_of past.now.steps.now)) [] list.now) }
 {
+    let Keys { ring, tags } = *keys;
     let mut hosts = [false; MAX_HOSTS];
     let usable = &mut hosts[..ring.hosts()];
-    find_usable(&replay.ejector, usable);
-    place_all(alloc, ring, tags, usable, steps, replay, conn, list)
+    find_usable(&past.replay.ejector, usable);
+    place_all(alloc, &Owners { ring, tags, usable }, past, conn, list)
 }
 
-// Finds for each host whether it is usable.
 fn find_usable(ejector: &Ejector, usable: &mut [bool])
     requires { length usable.old ≡ ejector.now.rules.hosts }
     ensures { usable.new ≡ map (is_usable ejector.now.rules ejector.now.state)
@@ -58,57 +75,52 @@ fn find_usable(ejector: &Ejector, usable: &mut [bool])
     }
 }
 
-// Places the parts of a command one after another on the usable hosts.
 fn place_all(
     alloc: Global,
-    ring: &Ring,
-    tags: bool,
-    usable: &[bool],
-    steps: &[Turn],
-    replay: &Replay,
+    owners: &Owners<'_>,
+    past: &Past<'_>,
     conn: u64,
     list: &PartPlans,
 ) -> Result<Vec<Part>, AllocError>
-    requires { length usable.now ≡ ring.now.hosts }
-    ensures { IfOk result (λ parts. (S : Setting) (marks : List Mark) → S.ring ≡ ring.now
-        → S.rules.settings.tags ≡ tags
-        → usable_flags S (past_of_scan steps.now marks replay.now) ≡ usable.now
+    requires { length owners.now.usable.now ≡ owners.now.ring.now.hosts }
+    ensures { IfOk result (λ parts. (S : Setting) (marks : List Mark) → S.ring ≡ owners.now.ring.now
+        → S.rules.settings.tags ≡ owners.now.tags
+        → usable_flags S (past_seen past.now marks) ≡ owners.now.usable.now
         → parts_of parts.items
-        ≡ parts_placed S (past_of_scan steps.now marks replay.now) conn
-        (accepted_count conn (history_of steps.now)) [] list.now) }
+        ≡ parts_placed S (past_seen past.now marks) conn
+        (accepted_count conn (history_of past.now.steps.now)) [] list.now) }
 {
-    let command = times(steps, Wanted::Arrival(conn));
+    let Owners { ring, tags, usable } = *owners;
+    let command = times(past.steps, Wanted::Arrival(conn));
+    let at = CommandPlace { conn, command };
     let mut placed = Vec::new(alloc);
     for plan in &list.0 {
         let host = ring.owner(point_of_key(plan.key.as_slice(), tags), usable);
-        let part = placed_part(steps, replay, &placed, conn, command, host, plan)?;
+        let part = placed_part(past, &placed, at, host, plan)?;
         placed.push(part)?;
     }
     Ok(placed)
 }
 
-// The next part of a command, at its host.
 fn placed_part(
-    steps: &[Turn],
-    replay: &Replay,
+    past: &Past<'_>,
     placed: &[Part],
-    conn: u64,
-    command: u64,
+    at: CommandPlace,
     host: Option<usize>,
     plan: &PartPlan,
 ) -> Result<Part, AllocError>
     ensures { IfOk result (λ part. part_of part
-        ≡ with_host (past_of_scan steps.now [] replay.now) (parts_of placed.now) host
-        (hostless conn command (length placed.now) plan.now)) }
+        ≡ with_host (past_seen past.now []) (parts_of placed.now) host
+        (hostless at.conn at.command (length placed.now) plan.now)) }
 {
     let text = plan.text.clone()?;
     let (epoch, local) = match host {
         None => (0, Some(AtOnce::NoHost)),
-        Some(host) => at_host(steps, replay, placed, host),
+        Some(host) => at_host(past.steps, past.replay, placed, host),
     };
     Ok(Part {
-        conn,
-        command,
+        conn: at.conn,
+        command: at.command,
         number: placed.len() as u64,
         text,
         host,
@@ -117,7 +129,7 @@ fn placed_part(
     })
 }
 
-// The host's epoch, and `Busy` if as many parts as may wait for it already do.
+// The host's epoch. `Busy`: as many parts as may wait for it already do.
 fn at_host(steps: &[Turn], replay: &Replay, placed: &[Part], host: usize) -> (u64, Option<AtOnce>)
     ensures epoch { result.0 ≡ epoch host (history_of steps.now) }
     ensures local { option_map value_at_once result.1
@@ -134,7 +146,6 @@ fn at_host(steps: &[Turn], replay: &Replay, placed: &[Part], host: usize) -> (u6
     }
 }
 
-// The number of parts in the host's pipe in this epoch.
 fn count_of(parts: &[Part], host: usize, epoch: u64) -> u64
     ensures { result ≡ length (filter (is_of host epoch) (parts_of parts.now)) }
 {

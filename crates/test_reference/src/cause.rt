@@ -4,27 +4,25 @@ ghost use Rattle.resp_core.specs.Value.{tree_of};
 ghost use Rattle.proxy_history.specs.Setting.{Setting, hosts};
 ghost use Rattle.proxy_history.specs.History.{is_open, accepted_count, handed_count};
 ghost use Rattle.proxy_history.specs.Cause.{own_cause, first_true, no_such_connection, finishing_cause, no_such_host, stale_cause};
-ghost use Rattle.test_reference.specs.Scan.{history_of, past_of_scan};
+ghost use Rattle.test_reference.specs.Scan.{history_of, past_of_scan, past_seen};
 ghost use Rattle.test_reference.specs.declared.replay.Replay.{Replay};
 ghost use Rattle.proxy_history.specs.declared.event.Event.TheVariants.{Opened, Arrived, Finished, Taken, Answered, Failed, Swept, Handed, Closed};
 ghost use Rattle.proxy_history.specs.declared.event.Kind.{Kind};
 ghost use Rattle.splitter.specs.declared.request.Request.{Request};
 
 use crate::pipe::{flying, waiting};
-use crate::replay::Replay;
+use crate::replay::Past;
 use crate::scan::{Turn, Wanted, has, times};
 use limits::{MAX_COMMANDS, MAX_CONNECTIONS};
 use proxy_history::Refusal;
 use resp_core::Value;
 
-/// Whether the connection is open.
 pub(crate) fn is_open(steps: &[Turn], conn: u64) -> bool
     ensures { result ≡ is_open conn (history_of steps.now) }
 {
     conn < times(steps, Wanted::Opening) && !has(steps, Wanted::Closing(conn))
 }
 
-/// The number of the connection's commands that are accepted and not handed out.
 pub(crate) fn left(steps: &[Turn], conn: u64) -> u64
     ensures { result
         ≡ accepted_count conn (history_of steps.now) - handed_count conn (history_of steps.now) }
@@ -32,7 +30,6 @@ pub(crate) fn left(steps: &[Turn], conn: u64) -> u64
     times(steps, Wanted::Arrival(conn)).saturating_sub(times(steps, Wanted::Handing(conn)))
 }
 
-/// The cause to refuse a connection, if there is one.
 pub(crate) fn opening_cause(steps: &[Turn]) -> Option<Refusal>
     ensures { (S : Setting) (replay : Replay)
         → result ≡ own_cause S (past_of_scan steps.now [] replay) Opened }
@@ -44,7 +41,6 @@ pub(crate) fn opening_cause(steps: &[Turn]) -> Option<Refusal>
     None
 }
 
-/// The cause to refuse a request, if there is one.
 pub(crate) fn arrival_cause(steps: &[Turn], conn: u64) -> Option<Refusal>
     ensures { (S : Setting) (replay : Replay) (request : Request)
         → result ≡ own_cause S (past_of_scan steps.now [] replay) (Arrived conn request) }
@@ -60,7 +56,6 @@ pub(crate) fn arrival_cause(steps: &[Turn], conn: u64) -> Option<Refusal>
     }
 }
 
-/// The cause to refuse the connection's finish, if there is one.
 pub(crate) fn finish_cause(steps: &[Turn], conn: u64) -> Option<Refusal>
     ensures { (S : Setting) (replay : Replay)
         → result ≡ own_cause S (past_of_scan steps.now [] replay) (Finished conn) }
@@ -74,53 +69,44 @@ pub(crate) fn finish_cause(steps: &[Turn], conn: u64) -> Option<Refusal>
     }
 }
 
-/// The cause to refuse taking a part, if there is one.
-pub(crate) fn take_cause(
-    host_count: usize,
-    steps: &[Turn],
-    replay: &Replay,
-    host: usize,
-) -> Option<Refusal>
+pub(crate) fn take_cause(host_count: usize, past: &Past<'_>, host: usize) -> Option<Refusal>
     ensures { (S : Setting) → hosts S ≡ host_count
-        → result ≡ own_cause S (past_of_scan steps.now [] replay.now) (Taken host) }
+        → result ≡ own_cause S (past_seen past.now []) (Taken host) }
 {
     if host >= host_count {
         Some(Refusal::NoSuchHost)
-    } else if waiting(steps, replay, host) == 0 {
+    } else if waiting(past.steps, past.replay, host) == 0 {
         Some(Refusal::NothingWaiting)
     } else {
         None
     }
 }
 
-/// The cause to refuse a reply, if there is one.
 pub(crate) fn answer_cause(
     host_count: usize,
-    steps: &[Turn],
-    replay: &Replay,
+    past: &Past<'_>,
     host: usize,
     epoch: u64,
     value: &Value,
 ) -> Option<Refusal>
     ensures { (S : Setting) (v : Value) (t : ℕ) → hosts S ≡ host_count
         → tree_of v ≡ tree_of value.now
-        → result ≡ own_cause S (past_of_scan steps.now [] replay.now) (Answered host epoch v t) }
+        → result ≡ own_cause S (past_seen past.now []) (Answered host epoch v t) }
 {
-    let current = times(steps, Wanted::Fault(host));
+    let current = times(past.steps, Wanted::Fault(host));
     if host >= host_count {
         Some(Refusal::NoSuchHost)
     } else if !value.is_plain() {
         Some(Refusal::NotPlain)
     } else if epoch != current {
         Some(Refusal::Stale { current })
-    } else if flying(steps, replay, host) == 0 {
+    } else if flying(past.steps, past.replay, host) == 0 {
         Some(Refusal::Unasked)
     } else {
         None
     }
 }
 
-/// The cause to refuse a fault, if there is one.
 pub(crate) fn fault_cause(
     host_count: usize,
     steps: &[Turn],
@@ -140,7 +126,6 @@ pub(crate) fn fault_cause(
     }
 }
 
-/// The cause to refuse a close, if there is one.
 pub(crate) fn close_cause(steps: &[Turn], conn: u64) -> Option<Refusal>
     ensures { (S : Setting) (replay : Replay)
         → result ≡ own_cause S (past_of_scan steps.now [] replay) (Closed conn) }

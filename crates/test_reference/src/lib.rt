@@ -2,8 +2,8 @@
 //!
 //! It keeps its list of steps and nothing else: for each event it goes through all of them again, as the definitions of
 //! `proxy_history` say. So its code is another way to the same answers than the core's, which keeps queues, pipes and
-//! counts. It is far too slow to serve. It stands on `proxy_history` and on the crates whose rules that uses. Begin
-//! with `reference.rt`, then `cause.rt` and `answering.rt`.
+//! counts. It stands on `proxy_history` and on the crates whose rules that uses. Begin with `reference.rt`, then
+//! `cause.rt` and `answering.rt`.
 #![tactic(auto)]
 
 mod answering;

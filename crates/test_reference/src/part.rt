@@ -12,7 +12,6 @@ pub(crate) enum AtOnce {
     Busy,
 }
 
-/// A part of a command.
 #[derive(Drop)]
 pub(crate) struct Part {
     pub conn: u64,

@@ -12,7 +12,6 @@ use limits::{MAX_BYTES, MAX_STEPS};
 use proxy_history::{Answer, Event};
 use splitter::Request;
 
-/// The payload bytes of the steps.
 pub(crate) fn payload(steps: &[Turn]) -> u64
     ensures { result ≡ told_offset (payload (history_of steps.now)) }
 {
@@ -23,15 +22,13 @@ pub(crate) fn payload(steps: &[Turn]) -> u64
     total
 }
 
-/// The payload bytes of a step with this event and answer.
 pub(crate) fn payload_of(event: &Event, answer: &Answer) -> u64
     ensures { result ≡ told_offset (payload_of event.now answer.now) }
 {
     length_of_event(event).saturating_add(length_of_answer(answer))
 }
 
-/// Whether a step with this event and answer fits behind the steps: at most 262,144 steps and 67,108,864 payload bytes
-/// are kept.
+/// At most 262,144 steps and 67,108,864 payload bytes are kept.
 pub(crate) fn has_room(steps: &[Turn], event: &Event, answer: &Answer) -> bool
     ensures { result ≡ has_room (history_of steps.now) event.now answer.now }
 {

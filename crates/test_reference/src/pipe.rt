@@ -11,21 +11,18 @@ use crate::part::Part;
 use crate::replay::Replay;
 use crate::scan::{Turn, Wanted, has, replies, times};
 
-/// Whether the two are the same part of the same command.
 pub(crate) fn is_same(part: &Part, other: &Part) -> bool
     ensures { result ≡ is_same (part_of part.now) (part_of other.now) }
 {
     part.conn == other.conn && part.command == other.command && part.number == other.number
 }
 
-/// Whether the part belongs to the pipe of the host in the epoch.
 pub(crate) fn is_of(part: &Part, host: usize, epoch: u64) -> bool
     ensures { result ≡ is_of host epoch (part_of part.now) }
 {
     part.host == Some(host) && part.epoch == epoch && part.local.is_none()
 }
 
-// Whether the part was sent.
 fn was_sent(replay: &Replay, part: &Part) -> bool
     ensures { result ≡ list_any (is_same (part_of part.now)) (parts_of replay.now.sent.items) }
 {
@@ -37,7 +34,6 @@ fn was_sent(replay: &Replay, part: &Part) -> bool
     false
 }
 
-/// Whether the part waits for the host.
 pub(crate) fn waits(steps: &[Turn], replay: &Replay, host: usize, part: &Part) -> bool
     ensures { result ≡ waits host (past_of_scan steps.now [] replay.now) (part_of part.now) }
 {
@@ -46,7 +42,6 @@ pub(crate) fn waits(steps: &[Turn], replay: &Replay, host: usize, part: &Part) -
         && !has(steps, Wanted::Closing(part.conn))
 }
 
-/// The number of parts that wait for the host.
 pub(crate) fn waiting(steps: &[Turn], replay: &Replay, host: usize) -> u64
     ensures value { result ≡ length (waiting_parts host (past_of_scan steps.now [] replay.now)) }
     ensures few { result < 2 ^ 63 }
@@ -60,7 +55,6 @@ pub(crate) fn waiting(steps: &[Turn], replay: &Replay, host: usize) -> u64
     count
 }
 
-/// The oldest part that waits for the host.
 pub(crate) fn first_waiting<'a>(steps: &[Turn], replay: &'a Replay, host: usize) -> Option<&'a Part>
     ensures { option_map part_of (option_copied result) ≡ first_of
         (waiting_parts host (past_of_scan steps.now [] replay.now)) }
@@ -73,7 +67,6 @@ pub(crate) fn first_waiting<'a>(steps: &[Turn], replay: &'a Replay, host: usize)
     None
 }
 
-/// The number of parts sent to the host in the epoch.
 pub(crate) fn sent(replay: &Replay, host: usize, epoch: u64) -> u64
     ensures value { (steps : List Step)
         → result ≡ length (sent_to host epoch (past_of_scan steps [] replay.now)) }
@@ -88,7 +81,7 @@ pub(crate) fn sent(replay: &Replay, host: usize, epoch: u64) -> u64
     count
 }
 
-/// The number of parts sent to the host in its present epoch that have no reply.
+/// The parts sent in its present epoch without a reply.
 pub(crate) fn flying(steps: &[Turn], replay: &Replay, host: usize) -> u64
     ensures value { result ≡ flying_count host (past_of_scan steps.now [] replay.now) }
     ensures few { result < 2 ^ 63 }

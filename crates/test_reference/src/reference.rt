@@ -1,5 +1,4 @@
-//! A plain program that answers events as a legal history does. For each event it goes through all its steps again, and
-//! it keeps nothing else.
+//! The plain program, which keeps its steps alone.
 ghost use Rattle.std.specs.Prelude.{◌≡◌, ◌⊎◌, ◌∷◌, ℕ, List, None, is_some, [], IfOk, OnOk, OnErr, IfErr, IsErrOf, MatchOption};
 ghost use Rattle.ejector.specs.Settings.{first_fault};
 ghost use Rattle.ejector.specs.declared.mark.Mark.{Mark};
@@ -17,12 +16,13 @@ ghost use Rattle.proxy_history.specs.Proxy.{history_in, rules_of, setting_of, Is
 ghost use Rattle.proxy_history.specs.declared.event.Event.TheVariants.{Handed};
 
 use crate::answering::{accepted, handed_out, lost, matched, swept, taken};
+use crate::arrival::Keys;
 use crate::cause::{
     answer_cause, arrival_cause, close_cause, fault_cause, finish_cause, is_open, left,
     opening_cause, take_cause,
 };
 use crate::payload::has_room;
-use crate::replay::{Replay, replayed};
+use crate::replay::{Past, Replay, replayed};
 use crate::scan::{Turn, Wanted, times};
 use crate::value::outcome;
 use ejector::{EjectError, Ejector, Settings};
@@ -104,7 +104,6 @@ impl Reference {
         }
     }
 
-    // Adds a step that may follow.
     fn add(&mut self, step: Turn) -> Result<(), (Refusal, Event)>
         requires { MayFollow self.old.setting (past self.old.setting (history_in self.old)) step }
         ensures step { OnOk result ((history_in self.new ≡ step ∷ history_in self.old)
@@ -127,7 +126,6 @@ impl Reference {
     }
 }
 
-// The answer to the event after these steps, where nothing refuses it.
 fn next_answer(
     alloc: Global,
     ring: &Ring,
@@ -149,7 +147,11 @@ fn next_answer(
     if let Some(cause) = own_cause(alloc, ring.hosts(), steps, &replay, event)? {
         return Err(cause);
     }
-    let answer = answer_to(alloc, ring, settings.tags, steps, &mut replay, event)?;
+    let keys = Keys {
+        ring,
+        tags: settings.tags,
+    };
+    let answer = answer_to(alloc, &keys, steps, &mut replay, event)?;
     if has_room(steps, event, &answer) {
         Ok(answer)
     } else {
@@ -157,7 +159,6 @@ fn next_answer(
     }
 }
 
-// The first cause of the event's own kind that holds.
 fn own_cause(
     alloc: Global,
     hosts: usize,
@@ -173,13 +174,13 @@ fn own_cause(
         Event::Opened => opening_cause(steps),
         Event::Arrived { conn, .. } => arrival_cause(steps, *conn),
         Event::Finished { conn } => finish_cause(steps, *conn),
-        Event::Taken { host } => take_cause(hosts, steps, replay, *host),
+        Event::Taken { host } => take_cause(hosts, &Past { steps, replay }, *host),
         Event::Answered {
             host,
             epoch,
             value,
             ..
-        } => answer_cause(hosts, steps, replay, *host, *epoch, value),
+        } => answer_cause(hosts, &Past { steps, replay }, *host, *epoch, value),
         Event::Failed { host, epoch, .. } => fault_cause(hosts, steps, *host, *epoch),
         Event::Swept { .. } => None,
         Event::Handed { conn } => hand_cause(alloc, steps, replay, *conn)?,
@@ -187,7 +188,6 @@ fn own_cause(
     })
 }
 
-// The cause to refuse handing out a reply, if there is one.
 fn hand_cause(
     alloc: Global,
     steps: &[Turn],
@@ -218,7 +218,6 @@ fn hand_cause(
     }
 }
 
-// Whether the command has an outcome.
 fn has_outcome(
     alloc: Global,
     steps: &[Turn],
@@ -240,21 +239,19 @@ fn has_outcome(
     }
 }
 
-// The answer to an event that no cause of its own refuses.
 fn answer_to(
     alloc: Global,
-    ring: &Ring,
-    tags: bool,
+    keys: &Keys<'_>,
     steps: &[Turn],
     replay: &mut Replay,
     event: &Event,
 ) -> Result<Answer, AllocError>
-    requires hosts { ring.now.hosts ≡ replay.old.ejector.rules.hosts }
-    requires tags { tags ≡ replay.old.ejector.rules.settings.tags }
+    requires hosts { keys.now.ring.now.hosts ≡ replay.old.ejector.rules.hosts }
+    requires tags { keys.now.tags ≡ replay.old.ejector.rules.settings.tags }
     requires legal { (S : Setting) × IsLegal S (history_of steps.now)
         × Shows S (history_of steps.now) replay.old }
-    requires host { HasHost ring.now.hosts event.now }
-    ensures { IfOk result (λ a. (S : Setting) (marks : List Mark) → S.ring ≡ ring.now
+    requires host { HasHost keys.now.ring.now.hosts event.now }
+    ensures { IfOk result (λ a. (S : Setting) (marks : List Mark) → S.ring ≡ keys.now.ring.now
         → S.rules ≡ replay.old.ejector.rules
         → replay.old.ejector.state ≡ state S.rules S.opening marks
         → a ≡ answer_to S (past_of_scan steps.now marks replay.old) event.now) }
@@ -264,7 +261,11 @@ fn answer_to(
             conn: times(steps, Wanted::Opening),
         }),
         Event::Arrived { conn, request } => accepted(
-            alloc, ring, tags, steps, replay, *conn, request,
+            alloc,
+            keys,
+            &Past { steps, replay },
+            *conn,
+            request,
         ),
         Event::Finished { .. } => Ok(Answer::Finishing),
         Event::Taken { host } => taken(alloc, steps, replay, *host),

@@ -14,7 +14,7 @@ ghost use Rattle.proxy_history.specs.Proxy.{rules_of};
 ghost use Rattle.proxy_history.specs.Hosts.{HasHost, HaveHosts};
 ghost use Rattle.test_reference.specs.Scan.{Shows, history_of, part_of, parts_of, past_of_scan};
 
-use crate::arrival::placed_parts;
+use crate::arrival::{Keys, placed_parts};
 use crate::part::Part;
 use crate::pipe::{first_waiting, flying, waiting};
 use crate::scan::Turn;
@@ -24,7 +24,6 @@ use proxy_history::{Event, Kind};
 use splitter::{Plan, plan};
 use std::alloc::{AllocError, Global};
 
-/// The parts of a history, those that were sent, and the state of outlier detection.
 #[derive(Drop)]
 pub(crate) struct Replay {
     pub parts: Vec<Part>,
@@ -32,7 +31,13 @@ pub(crate) struct Replay {
     pub ejector: Ejector,
 }
 
-/// What the steps' history determines. Results of unknown hosts are left out.
+#[derive(Clone, Copy)]
+pub(crate) struct Past<'a> {
+    pub steps: &'a [Turn],
+    pub replay: &'a Replay,
+}
+
+/// Results of unknown hosts are left out.
 pub(crate) fn replayed(
     alloc: Global,
     ring: &Ring,
@@ -50,19 +55,15 @@ pub(crate) fn replayed(
         ejector: ejector(alloc, ring, settings)?,
     };
     for at in 0..steps.len() {
-        grow(
-            alloc,
+        let keys = Keys {
             ring,
-            settings.tags,
-            &steps[..at],
-            &steps[at].event,
-            &mut replay,
-        )?;
+            tags: settings.tags,
+        };
+        grow(alloc, &keys, &steps[..at], &steps[at].event, &mut replay)?;
     }
     Ok(replay)
 }
 
-// Outlier detection before any result.
 fn ejector(alloc: Global, ring: &Ring, settings: Settings) -> Result<Ejector, AllocError>
     requires { first_fault (rules_of ring.now settings) ≡ None }
     ensures { IfOk result (λ e. (e.rules ≡ rules_of ring.now settings)
@@ -74,43 +75,40 @@ fn ejector(alloc: Global, ring: &Ring, settings: Settings) -> Result<Ejector, Al
     }
 }
 
-// Adds one more event behind the steps.
 fn grow(
     alloc: Global,
-    ring: &Ring,
-    tags: bool,
+    keys: &Keys<'_>,
     steps: &[Turn],
     event: &Event,
     replay: &mut Replay,
 ) -> Result<(), AllocError>
-    requires hosts { ring.now.hosts ≡ replay.old.ejector.rules.hosts }
-    requires tags { tags ≡ replay.old.ejector.rules.settings.tags }
-    ensures shows { OnOk result ((S : Setting) (s : Step) → S.ring ≡ ring.now → s.event ≡ event.now
-        → HasHost ring.now.hosts event.now
+    requires hosts { keys.now.ring.now.hosts ≡ replay.old.ejector.rules.hosts }
+    requires tags { keys.now.tags ≡ replay.old.ejector.rules.settings.tags }
+    ensures shows { OnOk result ((S : Setting) (s : Step) → S.ring ≡ keys.now.ring.now
+        → s.event ≡ event.now
+        → HasHost keys.now.ring.now.hosts event.now
         → Shows S (history_of steps.now) replay.old
         → Shows S (s ∷ history_of steps.now) replay.new) }
     ensures rules { replay.new.ejector.rules ≡ replay.old.ejector.rules }
 {
-    let mut parts = parts_by(alloc, ring, tags, steps, replay, event)?;
+    let mut parts = parts_by(alloc, keys, steps, replay, event)?;
     let mut sent = sent_by(alloc, steps, replay, event)?;
-    take_mark(ring.hosts(), steps, replay, event)?;
+    take_mark(keys.ring.hosts(), steps, replay, event)?;
     replay.parts.append(&mut parts)?;
     replay.sent.append(&mut sent)?;
     Ok(())
 }
 
-// The parts that the event brings.
 fn parts_by(
     alloc: Global,
-    ring: &Ring,
-    tags: bool,
+    keys: &Keys<'_>,
     steps: &[Turn],
     replay: &Replay,
     event: &Event,
 ) -> Result<Vec<Part>, AllocError>
-    requires hosts { ring.now.hosts ≡ replay.now.ejector.rules.hosts }
-    requires tags { tags ≡ replay.now.ejector.rules.settings.tags }
-    ensures { IfOk result (λ parts. (S : Setting) (marks : List Mark) → S.ring ≡ ring.now
+    requires hosts { keys.now.ring.now.hosts ≡ replay.now.ejector.rules.hosts }
+    requires tags { keys.now.tags ≡ replay.now.ejector.rules.settings.tags }
+    ensures { IfOk result (λ parts. (S : Setting) (marks : List Mark) → S.ring ≡ keys.now.ring.now
         → S.rules ≡ replay.now.ejector.rules
         → replay.now.ejector.state ≡ state S.rules S.opening marks
         → parts_of parts.items ≡ parts_by S (past_of_scan steps.now marks replay.now) event.now) }
@@ -122,14 +120,13 @@ fn parts_by(
         return Err(AllocError);
     };
     let parts = match &plan {
-        Plan::Parts { list, .. } => placed_parts(alloc, ring, tags, steps, replay, *conn, list),
+        Plan::Parts { list, .. } => placed_parts(alloc, keys, &Past { steps, replay }, *conn, list),
         _ => Ok(Vec::new(alloc)),
     };
     drop(plan);
     parts
 }
 
-// The part that the event sends, if it sends one.
 fn sent_by(
     alloc: Global,
     steps: &[Turn],
@@ -148,7 +145,7 @@ fn sent_by(
     Ok(sent)
 }
 
-// The same part, which shares its text.
+// The copy shares the text.
 fn copied(part: &Part) -> Result<Part, AllocError>
     ensures { IfOk result (λ copy. copy ≡ part.now) }
 {
@@ -163,7 +160,6 @@ fn copied(part: &Part) -> Result<Part, AllocError>
     })
 }
 
-// Gives outlier detection the event, if it is one of its marks.
 fn take_mark(
     hosts: usize,
     steps: &[Turn],
@@ -197,7 +193,7 @@ fn take_mark(
     }
 }
 
-// Whether the host isn't blamed for such a fault: its link ended while no part waited for it or flew.
+// A host isn't blamed if its link ended while no part waited for it or flew.
 pub(crate) fn is_excused(steps: &[Turn], replay: &Replay, host: usize, kind: Kind) -> bool
     ensures { result ≡ is_excused (past_of_scan steps.now [] replay.now) host kind }
 {
@@ -207,7 +203,7 @@ pub(crate) fn is_excused(steps: &[Turn], replay: &Replay, host: usize, kind: Kin
     }
 }
 
-// Gives outlier detection a result of the host, if there is such a host.
+// An unknown host has no results.
 fn take_result(
     ejector: &mut Ejector,
     hosts: usize,

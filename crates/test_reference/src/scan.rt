@@ -18,10 +18,8 @@ use proxy_history::{Answer, Event};
 use resp_core::{SpelledCommand, Value};
 use splitter::Request;
 
-/// A step of the proxy.
 pub(crate) type Turn = Step<Event, Answer>;
 
-/// Which events are counted.
 #[derive(Clone, Copy)]
 pub(crate) enum Wanted {
     Opening,
@@ -33,7 +31,6 @@ pub(crate) enum Wanted {
     Finishing(u64),
 }
 
-/// The number of steps with an event that is wanted.
 pub(crate) fn times(steps: &[Turn], wanted: Wanted) -> u64
     ensures { result ≡ times (is_wanted wanted) (history_of steps.now) }
 {
@@ -46,7 +43,6 @@ pub(crate) fn times(steps: &[Turn], wanted: Wanted) -> u64
     count
 }
 
-/// Whether a step has such an event.
 pub(crate) fn has(steps: &[Turn], wanted: Wanted) -> bool
     ensures { result ≡ has (is_wanted wanted) (history_of steps.now) }
 {
@@ -71,7 +67,7 @@ fn is_wanted(wanted: Wanted, event: &Event) -> bool
     }
 }
 
-// Whether the connection finishes with the request: QUIT does, and bytes that are no text of a value.
+// QUIT is a last request, and so are bytes that are no text of a value.
 fn is_leaving(request: &Request) -> bool
     ensures { result ≡ is_last (plan_for request.now) }
 {
@@ -85,7 +81,6 @@ fn is_leaving(request: &Request) -> bool
     }
 }
 
-// Whether the connection finishes with a command that is its text.
 fn is_leaving_text(command: &SpelledCommand) -> bool
     ensures { result ≡ is_last (plan_of (read (command_of command.now))) }
 {
@@ -96,7 +91,6 @@ fn is_leaving_text(command: &SpelledCommand) -> bool
     is_quit(command.word(0))
 }
 
-// Whether the name is that of QUIT.
 fn is_quit(name: &[u8]) -> bool
     ensures { result ≡ is_quit_row (row_named name.now) }
 {
@@ -106,7 +100,6 @@ fn is_quit(name: &[u8]) -> bool
     }
 }
 
-/// The request of command `index` of the connection.
 pub(crate) fn request_at(steps: &[Turn], conn: u64, index: u64) -> Option<&Request>
     ensures { option_copied result ≡ slice_get (requests conn (history_of steps.now)) index }
 {
@@ -122,7 +115,6 @@ pub(crate) fn request_at(steps: &[Turn], conn: u64, index: u64) -> Option<&Reque
     None
 }
 
-// The request that arrives, if it is of the connection.
 fn request_of(event: &Event, conn: u64) -> Option<&Request>
     ensures { list_of (option_copied result) ≡ request_by conn event.now }
 {
@@ -135,7 +127,6 @@ fn request_of(event: &Event, conn: u64) -> Option<&Request>
     }
 }
 
-/// The number of the host's replies in the epoch.
 pub(crate) fn replies(steps: &[Turn], host: usize, epoch: u64) -> u64
     ensures { result ≡ length (replies_from host epoch (history_of steps.now)) }
 {
@@ -148,7 +139,6 @@ pub(crate) fn replies(steps: &[Turn], host: usize, epoch: u64) -> u64
     count
 }
 
-/// The host's reply at this place of the epoch.
 pub(crate) fn reply_at(steps: &[Turn], host: usize, epoch: u64, place: u64) -> Option<&Value>
     ensures { option_map tree_of (option_copied result) ≡ slice_get
         (replies_from host epoch (history_of steps.now)) place }
@@ -165,7 +155,6 @@ pub(crate) fn reply_at(steps: &[Turn], host: usize, epoch: u64, place: u64) -> O
     None
 }
 
-// The reply that comes, if it is of the host and the epoch.
 fn reply_of(event: &Event, host: usize, epoch: u64) -> Option<&Value>
     ensures { list_of (option_map tree_of (option_copied result)) ≡ reply_by host epoch event.now }
 {

@@ -47,7 +47,6 @@ pub(crate) fn value_of(
     Ok(None)
 }
 
-// The value of a part that got one at its arrival.
 fn value_at_once(at_once: AtOnce) -> Value
     ensures { tree_of result ≡ value_at_once at_once }
 {
@@ -63,7 +62,6 @@ fn upstream_failure() -> Value
     Value::Fault(Bytes::from_static(b"upstream failure"))
 }
 
-// The reply of the host that came in the part's place.
 fn reply_to<'a>(steps: &'a [Turn], replay: &Replay, host: usize, part: &Part) -> Option<&'a Value>
     ensures { option_map tree_of (option_copied result) ≡ reply_to (part_of part.now) host
         (past_of_scan steps.now [] replay.now) }
@@ -101,7 +99,6 @@ pub(crate) fn outcome(
     }
 }
 
-// The joined values, if there are any.
 fn joined(alloc: Global, how: Join, values: Option<Vec<Value>>) -> Result<Option<Value>, SplitError>
     requires { IfSome values (λ values. MayJoin how (length values.items)) }
     ensures value { IfOk result
@@ -115,7 +112,7 @@ fn joined(alloc: Global, how: Join, values: Option<Vec<Value>>) -> Result<Option
     Ok(Some(join(alloc, how, &values)?))
 }
 
-// The values of the command's parts, once each has one.
+// `None`: a part has none yet.
 fn values_of(
     alloc: Global,
     steps: &[Turn],
@@ -140,7 +137,6 @@ fn values_of(
     Ok(Some(values))
 }
 
-// Whether it is a part of the command.
 fn is_part_of(part: &Part, conn: u64, index: u64) -> bool
     ensures { result ≡ is_part_of conn index (part_of part.now) }
 {

@@ -4,7 +4,6 @@ use std::alloc::Global;
 use test_rows::settings::bad_settings;
 use test_rows::shown::{escaped, refusal_words, shown};
 
-/// The answer in words: its name, and its fields in their order.
 pub(crate) fn answer_text(alloc: Global, answer: &Answer) -> Result<String> {
     match answer {
         Answer::Opened { conn } => shown(alloc, format_args!("Opened {conn}")),
@@ -69,7 +68,6 @@ fn handed(alloc: Global, text: &[u8]) -> Result<String> {
     shown(alloc, format_args!("Bytes {text}"))
 }
 
-/// The refusal in words: its number, its name and its fields.
 pub(crate) fn refusal_text(alloc: Global, refusal: Refusal) -> Result<String> {
     let number = refusal.number();
     match refusal {
@@ -78,7 +76,6 @@ pub(crate) fn refusal_text(alloc: Global, refusal: Refusal) -> Result<String> {
     }
 }
 
-/// Each refusal in words, in the order of their numbers.
 pub(crate) fn all_refusals(alloc: Global) -> Result<String> {
     let refusals = [
         Refusal::NoMemory,
@@ -104,7 +101,6 @@ pub(crate) fn all_refusals(alloc: Global) -> Result<String> {
     Ok(text)
 }
 
-/// Appends an answer behind others.
 pub(crate) fn put_answer(text: &mut String, answer: String) -> Result<()> {
     if !text.is_empty() {
         text.push_str("; ")?;

@@ -37,7 +37,6 @@ pub struct Proxies {
 }
 
 impl Subject for Proxies {
-    /// Begins a row: the words are `core`, `plain` or `both`, and the arguments of a setting.
     fn open(alloc: Global, words: &str) -> Result<Proxies> {
         let (name, arguments) = first_word(words);
         match name {
@@ -113,7 +112,7 @@ impl Proxies {
         agreement(alloc, core, plain)
     }
 
-    // Makes a core that starts from this one's state, and returns the length of this one's journal.
+    // Returns the length of this one's journal.
     fn hand_over(&mut self, alloc: Global, arguments: &str) -> Result<String> {
         let Some(core) = &self.core else {
             bail!("only a core hands over");
@@ -206,7 +205,7 @@ impl Proxies {
     }
 }
 
-// Replaces the proxy by a new one, if there is a proxy and the setting has no error.
+// Nothing is replaced if there is no proxy, or the setting has an error.
 fn begun<P: Drop>(
     alloc: Global,
     proxy: &mut Option<P>,

@@ -1,4 +1,4 @@
-//! Random events for the core and the plain program, whose answers must be equal.
+//! Random events.
 
 use anyhow::Result;
 use proxy_core::{Event, Kind, Request, Settings};
@@ -7,7 +7,6 @@ use std::alloc::Global;
 use test_rows::numbers::Numbers;
 use test_rows::values::{as_read, command, value_of};
 
-// The commands that arrive.
 const COMMANDS: [&str; 10] = [
     "GET a",
     "GET abc",
@@ -21,7 +20,7 @@ const COMMANDS: [&str; 10] = [
     "QUIT",
 ];
 
-// The replies of hosts; the last can't be written.
+// The last reply can't be written.
 const REPLIES: [&str; 6] = [
     "$-1\\r\\n",
     ":3\\r\\n",
@@ -57,7 +56,7 @@ fn request(numbers: &mut Numbers, alloc: Global) -> Result<Request> {
     }
 }
 
-// The host's epoch, and now and then the next one.
+// Now and then this is the next epoch.
 fn epoch(numbers: &mut Numbers, epochs: [u64; 3], host: usize) -> u64 {
     let now = epochs.get(host).copied().unwrap_or(0);
     if numbers.chance(8) {
@@ -67,7 +66,7 @@ fn epoch(numbers: &mut Numbers, epochs: [u64; 3], host: usize) -> u64 {
     }
 }
 
-// One of three hosts, and now and then an unknown one.
+// Now and then this is an unknown host.
 fn host(numbers: &mut Numbers) -> usize {
     if numbers.chance(30) {
         3

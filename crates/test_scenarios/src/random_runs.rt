@@ -1,4 +1,4 @@
-//! Runs of random events, on the core and on the plain program side by side.
+//! Runs of random events.
 
 use crate::agreement::agreed;
 use crate::outcome::outcome;
@@ -15,7 +15,6 @@ use test_rows::numbers::Numbers;
 use test_rows::shown::shown;
 use test_rows::text::{first_word, number};
 
-// The pass of random events.
 const PASS: u64 = 3;
 
 /// Random events at the moments 0, 1, 2 and so on.
@@ -58,7 +57,6 @@ fn difference(alloc: Global, t: u64, core: String, plain: String) -> Result<Opti
     Ok(Some(shown(alloc, format_args!("event {t} {text}"))?))
 }
 
-// The source of a random event.
 #[derive(Clone, Copy)]
 struct Draw {
     numbers: Numbers,
@@ -67,7 +65,6 @@ struct Draw {
 }
 
 impl Draw {
-    // The proxy's outcome for the event, and the numbers after it.
     fn taken_by<P: Proxy>(self, alloc: Global, proxy: &mut P) -> Result<(String, Numbers)> {
         let (event, rest) = again!(self.event(alloc))?;
         Ok((outcome(alloc, proxy, PASS, event)?, rest))
@@ -80,7 +77,6 @@ impl Draw {
     }
 }
 
-// The epochs of the three hosts.
 fn epochs(core: &Core) -> [u64; 3] {
     if core.hosts() == 3 {
         [core.epoch(0), core.epoch(1), core.epoch(2)]
@@ -108,7 +104,6 @@ pub(crate) fn run_each(alloc: Global, words: &str) -> Result<String> {
     )
 }
 
-// The number of a seed's answered events, or the first event whose answers differ.
 fn run_seed(alloc: Global, seed: u64, events: u64) -> Result<Result<usize, String>> {
     let mut numbers = Numbers(0x9e37_79b9_7f4a_7c15 ^ (seed << 20));
     let setting = Setting::of(alloc, random::settings(&mut numbers))?;

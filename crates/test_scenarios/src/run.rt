@@ -20,14 +20,12 @@ impl Run {
         }
     }
 
-    /// Adds the event of a line.
     pub(crate) fn add(&mut self, alloc: Global, pass: u64, line: &str) -> Result<()> {
         self.lines.push((pass, String::from_str(alloc, line)?))?;
         Ok(())
     }
 
-    /// Gives all events to the core, if there is one, in one call, made again where memory was refused. Returns the
-    /// answers in words.
+    /// Gives all events to the core in one call, made again where memory was refused. `None`: there is no core.
     pub(crate) fn on_core(&self, alloc: Global, core: &mut Option<Core>) -> Result<Option<String>> {
         let Some(core) = core else {
             return Ok(None);
@@ -50,7 +48,7 @@ impl Run {
         Ok(pairs)
     }
 
-    /// Gives the events to the plain program, if there is one, one after another. Returns the answers in words.
+    /// Gives the events to the plain program, one after another. `None`: there is none.
     pub(crate) fn on_plain(
         &self,
         alloc: Global,

@@ -11,7 +11,7 @@ use test_rows::text::number;
 // On this ring the key `abc` belongs to host 0, `a` to host 1 and the empty key to host 2.
 const POINTS: &[(u32, usize)] = &[(2_555_380_112, 0), (3_111_502_092, 1), (3_649_838_548, 2)];
 
-/// The ring's source, and the settings.
+/// The ring's source, and the settings. A proxy that finds no memory is made again.
 #[derive(Drop)]
 pub struct Setting {
     hosts: usize,
@@ -59,7 +59,7 @@ impl Setting {
         Ok(())
     }
 
-    /// A core on this setting, made again where there was no memory.
+    /// A core on this setting.
     pub(crate) fn core(&self, alloc: Global) -> Result<Core, Refusal> {
         match self.one_core(alloc) {
             Err(Refusal::NoMemory) => self.one_core(alloc),
@@ -71,7 +71,7 @@ impl Setting {
         Core::new(alloc, self.ring(alloc)?, self.settings)
     }
 
-    /// A core on this setting that starts from another's state, made again where there was no memory.
+    /// A core on this setting that starts from another's state.
     pub(crate) fn core_from(&self, alloc: Global, core: &Core) -> Result<Core, Refusal> {
         match self.one_core_from(alloc, core.hand_over()) {
             Err(Refusal::NoMemory) => self.one_core_from(alloc, core.hand_over()),
@@ -83,7 +83,7 @@ impl Setting {
         Core::new_from(alloc, self.ring(alloc)?, self.settings, from)
     }
 
-    /// A plain program on this setting, made again where there was no memory.
+    /// A plain program on this setting.
     pub(crate) fn plain(&self, alloc: Global) -> Result<Reference, Refusal> {
         match self.one_plain(alloc) {
             Err(Refusal::NoMemory) => self.one_plain(alloc),

@@ -65,7 +65,7 @@ fn serve_before<
 ) -> io::Result<bool> {
     let mut settings = Vec::new(rt.alloc());
     settings.write_fmt(format_args!("{{\"hosts\":[\"{one}\",\"{other}\"],\"workers\":2}}"))?;
-    let has_served = serve(rt, listener, &settings, (2, Marks::FULL), line);
+    let has_served = serve(rt, listener, &settings, (2, Marks::full()), line);
     drop(TcpStream::connect(rt, one)?);
     drop(TcpStream::connect(rt, other)?);
     Ok(has_served)

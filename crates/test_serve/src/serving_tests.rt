@@ -195,7 +195,7 @@ fn close_half<
     let mut line = Vec::new(rt.alloc());
     let (has_served, got) = join(
         rt,
-        || serve(rt, listener, SETTINGS, (1, Marks::FULL), &mut line),
+        || serve(rt, listener, SETTINGS, (1, Marks::full()), &mut line),
         || say(rt, address, asked),
     );
     if !has_served {

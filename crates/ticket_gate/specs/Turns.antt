@@ -7,6 +7,24 @@ use Rattle.ticket_gate.specs.Journal.{steps_of}
 use Rattle.ticket_gate.specs.Refusal.{RefusedByState}
 use Rattle.ticket_gate.specs.Gate.{GateFacts, PassFacts}
 
+-- what contracts see of the turns of a pass
+pub record TurnFacts (Home Setting Event Answer : Type 0) : Type 0 where
+  -- the place of the turns
+  pub home : Home
+  -- the number of the pass
+  pub pass : ℕ
+  -- what the state was made with
+  pub setting : Setting
+  -- the journal as far as the pass has seen it
+  pub seen : List (StepOf Event Answer)
+
+-- the place, the pass and the setting are as before
+pub record KeepsPlace {Home Setting Event Answer : Type 0}
+    (before after : TurnFacts Home Setting Event Answer) : Type 0 where
+  pub home : after.home ≡ before.home
+  pub pass : after.pass ≡ before.pass
+  pub setting : after.setting ≡ before.setting
+
 module _ {E A R : Type 0} (cause : R → E → List (StepOf E A) → Type 0) (spent : Type 0) (n : ℕ)
     (before : List (StepOf E A)) (event : E) (after : List (StepOf E A)) where
   -- A turn of the pass n was refused, and the event comes back. It is never refused for being busy,

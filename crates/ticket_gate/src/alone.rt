@@ -62,13 +62,12 @@ impl<S: Recorded> Turns for Alone<S> {
 
     type Home = ();
 
-    ghost home = { λ a. tt };
-
-    ghost pass = { λ a. a.pass };
-
-    ghost seen = { λ a. S.journal a.state };
-
-    ghost setting = { λ a. S.setting a.state };
+    ghost facts = { λ a. record {
+      home = tt;
+      pass = a.pass;
+      setting = S.setting a.state;
+      seen = S.journal a.state;
+    } };
 
     ghost legal = { S.legal };
 

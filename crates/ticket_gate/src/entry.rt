@@ -16,9 +16,10 @@ pub const MAX_TRIES: u32 = 10;
 /// The most tries behind a sleep before a turn draws a ticket.
 pub const MAX_SLEEPS: u32 = 12;
 
-/// Each further sleep is as much longer.
+/// The first sleep. Each further one is as much longer.
 const MIN_SLEEP_US: u64 = 50;
 
+/// The longest sleep.
 const MAX_SLEEP_US: u64 = 600;
 
 // `None`: it isn't time to sleep yet.
@@ -32,7 +33,6 @@ fn sleep_us(looks: u32) -> Option<u64>
 
 #[derive(Clone, Copy)]
 pub(crate) enum EntryRefusal {
-    /// The ticket served, and the next to be drawn.
     Busy { served: u64, drawn: u64 },
     Spent,
 }

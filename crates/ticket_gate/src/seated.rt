@@ -21,8 +21,9 @@ pub struct Seated<'a, S: Recorded> {
     seat: GateSeat<S>,
     // None outside.
     ticket: Option<u64>,
-    // Whether it stays inside after a turn, and its turns inside.
+    // Whether it stays inside after a turn.
     holds: bool,
+    // The turns that it has made inside.
     turns: u32,
 }
 
@@ -116,11 +117,8 @@ impl<'a, S: Recorded> Seated<'a, S> {
     ghost use Rattle.ticket_gate.specs.Journal.{GrowsByOthers};
     ghost use Rattle.ticket_gate.specs.declared.refusal.TurnRefusal.TheVariants.{Spent};
 
-    /// Looks at the state inside the gate, as `Gate::sight` does, and adds no step to its journal.
-    /// Afterwards the pass is outside.
-    ///
-    /// Answered: the sight is that of the journal that the pass now sees. Refused only `Spent`
-    /// (1202), once all tickets were drawn: the pass has seen nothing new.
+    /// Looks at the state inside the gate. It is answered, or refused `Spent` (1202), as `Gate::sight` is. Afterwards
+    /// the pass is outside.
     pub fn sight<R: Wait>(&mut self, rt: &R) -> Result<S::Sight, TurnRefusal<S::Refusal, ()>>
         ensures gate { self.new.gate ≡ self.old.gate }
         ensures same { IsSamePass self.old.pass self.new.pass }
@@ -155,13 +153,12 @@ impl<'a, S: Recorded> Turns for Seated<'a, S> {
 
     type Home = Gate<S>;
 
-    ghost home = { λ s. s.gate };
-
-    ghost pass = { λ s. s.pass.number };
-
-    ghost seen = { λ s. s.pass.known.seen };
-
-    ghost setting = { λ s. s.gate.setting };
+    ghost facts = { λ s. record {
+      home = s.gate;
+      pass = s.pass.number;
+      setting = s.gate.setting;
+      seen = s.pass.known.seen;
+    } };
 
     ghost legal = { S.legal };
 

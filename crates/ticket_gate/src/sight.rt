@@ -36,12 +36,11 @@ impl<S: Recorded> Gate<S> {
         sight
     }
 
-    /// Looks at the state, and adds no step to its journal. It enters and leaves as `take_turn`
-    /// does.
+    /// Looks at the state, and adds no step to its journal. It enters and leaves as `take_turn` does.
     ///
-    /// Answered: the sight is that of the journal that the pass now sees, which is legal, begins
-    /// with what it saw before, and has no further step of it. Refused only `Spent` (1202), once
-    /// all tickets were drawn: the pass has seen nothing new.
+    /// Answered: the sight is that of the legal journal that the pass now sees, which begins with what it saw before
+    /// and has no further step of it. Refused only `Spent` (1202), once all tickets were drawn: the pass has seen
+    /// nothing new.
     pub fn sight<R: Wait>(
         &self,
         rt: &R,

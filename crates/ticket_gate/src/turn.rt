@@ -33,14 +33,13 @@ impl<S: Recorded> Gate<S> {
         outcome
     }
 
-    /// Makes one turn: tries to enter at once, like `try_turn`, up to
-    /// [`MAX_TRIES`](crate::MAX_TRIES) times, and [`MAX_SLEEPS`](crate::MAX_SLEEPS) times more
-    /// behind short sleeps; then draws a ticket and waits until it is served.
+    /// Makes one turn. It tries to enter at once, like `try_turn`, [`MAX_TRIES`](crate::MAX_TRIES) times, and
+    /// [`MAX_SLEEPS`](crate::MAX_SLEEPS) times more behind short sleeps; then it waits with a ticket.
     ///
-    /// Answered: the pass now sees a legal journal, which begins with what it saw before and ends
-    /// with its step. Refused `Spent` (1202), once all tickets were drawn: the pass has seen
-    /// nothing new. Refused `State`: the journal has no step of this turn, and the state's cause
-    /// holds over what the pass now sees. Each refusal hands the event back. It is never `Busy`.
+    /// Answered: the pass now sees a legal journal, which begins with what it saw before and ends with its step.
+    /// Refused `Spent` (1202), once all tickets were drawn: the pass has seen nothing new. Refused `State`: the journal
+    /// has no step of this turn, and the state's cause holds over what the pass now sees. Each refusal hands the event
+    /// back. It is never `Busy`.
     #[inline(always)]
     pub fn take_turn<R: Wait>(
         &self,
@@ -67,8 +66,8 @@ impl<S: Recorded> Gate<S> {
 
     /// Makes one turn if nothing holds or awaits the gate. It never waits.
     ///
-    /// Answered and refused like `take_turn`, and `Busy` (1201) if more tickets were drawn than
-    /// served. `Busy` has the two numbers that it found, and the pass has seen nothing new.
+    /// Answered and refused like `take_turn`, and `Busy` (1201), with both numbers, if more tickets were drawn than
+    /// served: the pass has seen nothing new.
     pub fn try_turn(
         &self,
         pass: &mut Pass<S>,

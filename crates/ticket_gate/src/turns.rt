@@ -1,7 +1,7 @@
-ghost use Rattle.std.specs.Prelude.{◌≡◌, ℕ, List, IfOk, IfErr};
+ghost use Rattle.std.specs.Prelude.{List, IfOk, IfErr};
 ghost use Rattle.journal_core.specs.declared.step.Step.{Step as StepOf};
 ghost use Rattle.ticket_gate.specs.Journal.{AddsTurn};
-ghost use Rattle.ticket_gate.specs.Turns.{RefusesTurn};
+ghost use Rattle.ticket_gate.specs.Turns.{KeepsPlace, RefusesTurn, TurnFacts};
 
 use crate::refusal::TurnRefusal;
 use std::sync::Wait;
@@ -24,17 +24,8 @@ pub trait Turns {
     /// The place of the turns.
     type Home;
 
-    /// The place of the turns.
-    ghost home: { Self → Self.Home };
-
-    /// The number of the pass.
-    ghost pass: { Self → ℕ };
-
-    /// The journal as far as the pass has seen it.
-    ghost seen: { Self → List (StepOf Self.Event Self.Answer) };
-
-    /// What the state was made with.
-    ghost setting: { Self → Self.Setting };
+    /// The place, the pass, the setting, and the journal as far as the pass has seen it.
+    ghost facts: { Self → TurnFacts Self.Home Self.Setting Self.Event Self.Answer };
 
     /// The journals that a setting allows.
     ghost legal: { Self.Setting → List (StepOf Self.Event Self.Answer) → Type 0 };
@@ -55,10 +46,9 @@ pub trait Turns {
         rt: &R,
         event: Self::Event,
     ) -> Result<Self::Answer, TurnRefusal<Self::Refusal, Self::Event>>
-        ensures same { (home self.new ≡ home self.old) × (pass self.new ≡ pass self.old)
-            × (setting self.new ≡ setting self.old) }
-        ensures answered { IfOk result (λ answer. AddsTurn (legal (setting self.old))
-            (pass self.old) (seen self.old) event answer (seen self.new)) }
-        ensures refused { IfErr result (RefusesTurn (cause (setting self.old)) (spent self.new)
-            (pass self.old) (seen self.old) event (seen self.new)) };
+        ensures same { KeepsPlace (facts self.old) (facts self.new) }
+        ensures answered { let old = facts self.old in IfOk result (λ answer.
+            AddsTurn (legal old.setting) old.pass old.seen event answer (facts self.new).seen) }
+        ensures refused { let old = facts self.old in IfErr result (RefusesTurn
+            (cause old.setting) (spent self.new) old.pass old.seen event (facts self.new).seen) };
 }

@@ -14,7 +14,7 @@ pub struct Owner {
 /// A part of a command.
 #[derive(Drop)]
 pub struct Part {
-    /// Its owner.
+    /// The command whose part it is.
     pub owner: Owner,
     /// The text for its host.
     pub text: Bytes,

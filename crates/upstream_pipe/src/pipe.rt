@@ -1,4 +1,3 @@
-//! The pipe to one host.
 ghost use Rattle.std.specs.Prelude.{◌≡◌, ◌≤◌, ◌+◌, ◌^◌, ◌-◌, ◌∷◌, ◌++◌, [], List, ℕ, Option, Some, length, map, min, filter, slice_get, IsOk, IfOk, IfErr, IfSome, IfNone};
 ghost use Rattle.std.specs.Option.{option_copied, option_and_then};
 ghost use Rattle.std.specs.VecDeque.{deque_len, deque_capacity};
@@ -14,9 +13,10 @@ use std::collections::VecDeque;
 use std::marker::Model;
 
 /// The pipe to one host: the parts that wait, and the owners of the parts that fly, sent in this epoch without a reply.
+/// Only `room`, `push` and `fault` take memory.
 ///
-/// Contracts see these, the epoch, the number of parts taken in it, and the number of further parts that there is memory
-/// for.
+/// Contracts see these, the epoch, the number of parts taken in it, and the number of further parts that there is
+/// memory for.
 pub struct Pipe {
     alloc: Global,
     waiting: VecDeque<Part>,
@@ -76,21 +76,21 @@ impl Pipe {
         }
     }
 
-    /// The number of faults so far. It takes no memory.
+    /// The number of faults so far.
     pub fn epoch(&self) -> u64
         ensures { result ≡ self.now.epoch }
     {
         self.epoch
     }
 
-    /// The number of parts taken in this epoch, or the greatest `u64` if there were more. It takes no memory.
+    /// The number of parts taken in this epoch, or the greatest `u64` if there were more.
     pub fn taken(&self) -> u64
         ensures { result ≡ self.now.taken }
     {
         self.taken
     }
 
-    /// The number of parts that wait, at most 1,024. It takes no memory.
+    /// The number of parts that wait, at most 1,024.
     pub fn waiting(&self) -> usize
         ensures parts { result ≡ length self.now.waiting }
         ensures limit { result ≤ MAX_WAITING }
@@ -98,15 +98,15 @@ impl Pipe {
         self.waiting.len()
     }
 
-    /// The number of parts that fly, with forgotten ones. It takes no memory.
+    /// The number of parts that fly, with forgotten ones.
     pub fn flying(&self) -> usize
         ensures { result ≡ length self.now.flying }
     {
         self.flying.len()
     }
 
-    /// The owner of the part to which the next reply of this epoch belongs: `None` if no part flies, or if that part was
-    /// forgotten. It takes no memory.
+    /// The owner of the part to which the next reply of this epoch belongs. `None`: no part flies, or that part was
+    /// forgotten.
     pub fn next_owner(&self) -> Option<Owner>
         ensures { result ≡ option_and_then (λ place. place) (slice_get self.now.flying 0) }
     {
@@ -116,15 +116,15 @@ impl Pipe {
         }
     }
 
-    /// The part that `take` would return. It takes no memory.
+    /// The part that `take` would return.
     pub fn oldest(&self) -> Option<&Part>
         ensures { option_copied result ≡ slice_get self.now.waiting 0 }
     {
         self.waiting.front()
     }
 
-    /// Makes room for this many more parts, so that the next calls of `push` take no memory. If there is room already,
-    /// it takes none and is Ok.
+    /// Makes room for this many more parts, so that the next calls of `push` take no memory. It takes none if there is
+    /// room already.
     ///
     /// Refused 601 (no memory): the parts are unchanged, and there is no less room.
     pub fn room(&mut self, more: usize) -> Result<(), PipeRefusal>
@@ -153,7 +153,7 @@ impl Pipe {
         }
     }
 
-    /// Takes the oldest waiting part, which flies from now on; `None` if none waits. It takes no memory.
+    /// Takes the oldest waiting part, which flies from now on; `None` if none waits.
     pub fn take(&mut self) -> Option<Part>
         ensures none { IfNone result ((self.old.waiting ≡ []) × IsAsBefore self.old self.new) }
         ensures waiting { IfSome result (λ part. self.old.waiting ≡ part ∷ self.new.waiting) }
@@ -174,7 +174,7 @@ impl Pipe {
     }
 
     /// Takes a reply of this epoch, and returns the owner of its part: the one sent `count`-th in the epoch, where
-    /// `count` replies came before. `None` if that part was forgotten. It takes no memory.
+    /// `count` replies came before. `None` if that part was forgotten.
     ///
     /// Refused 603 (stale) exactly if the epoch isn't the pipe's, and 604 (unasked) exactly if it is and no part flies.
     pub fn answered(&mut self, epoch: u64) -> Result<Option<Owner>, PipeRefusal>
@@ -216,7 +216,7 @@ impl Pipe {
     }
 
     /// Forgets a connection: its waiting parts are dropped, and its flying ones keep their places without an owner, so
-    /// that their replies are discarded. It takes no memory.
+    /// that their replies are discarded.
     pub fn forget(&mut self, conn: u64)
         ensures waiting { self.new.waiting ≡ filter (is_kept conn) self.old.waiting }
         ensures flying { self.new.flying ≡ map (forgotten_owner conn) self.old.flying }
@@ -231,7 +231,6 @@ impl Pipe {
     }
 }
 
-// Drops the parts of the connection.
 fn forget_waiting(waiting: &mut VecDeque<Part>, conn: u64)
     ensures items { waiting.new.items ≡ filter (is_kept conn) waiting.old.items }
     ensures len { deque_len waiting.new ≤ deque_len waiting.old }
@@ -240,7 +239,6 @@ fn forget_waiting(waiting: &mut VecDeque<Part>, conn: u64)
     waiting.retain(|part| part.owner.conn != conn);
 }
 
-// Removes the owner from each place of the connection.
 fn forget_flying(flying: &mut VecDeque<Option<Owner>>, conn: u64)
     ensures items { flying.new.items ≡ map (forgotten_owner conn) flying.old.items }
     ensures len { deque_len flying.new ≡ deque_len flying.old }
@@ -253,7 +251,6 @@ fn forget_flying(flying: &mut VecDeque<Option<Owner>>, conn: u64)
     }
 }
 
-// The place, without its owner if it is of the connection.
 fn forgotten(conn: u64, place: Option<Owner>) -> Option<Owner>
     ensures { result ≡ forgotten_owner conn place }
 {
@@ -263,7 +260,6 @@ fn forgotten(conn: u64, place: Option<Owner>) -> Option<Owner>
     }
 }
 
-// The owners of the parts.
 fn owners(alloc: Global, parts: &VecDeque<Part>) -> Result<Vec<Owner>, PipeRefusal>
     ensures ok { IfOk result (λ owners. owners.items ≡ map owner_in parts.now.items) }
     ensures none { parts.now.items ≡ [] → IsOk result }
@@ -276,7 +272,6 @@ fn owners(alloc: Global, parts: &VecDeque<Part>) -> Result<Vec<Owner>, PipeRefus
     Ok(owners)
 }
 
-// The places, copied.
 fn places(
     alloc: Global,
     flying: &VecDeque<Option<Owner>>,

@@ -14,7 +14,7 @@ ghost use Rattle.proxy_core.specs.Pipelines.{answered_by, next_owner, with_pipel
 ghost use Rattle.proxy_core.specs.Core.{IsMade, IsLeft};
 ghost use Rattle.proxy_core.specs.Machine.{own_cause_in, setting_in, memory_in, IsDone, IsSame, HasCauseIn, IsKept};
 
-use crate::machine::{Done, Machine, make_room};
+use crate::machine::{Done, HostEpoch, Machine, make_room};
 use crate::refused::Refused;
 use ejector::{Ejector, Trip};
 use proxy_history::{Answer, Event, Refusal};
@@ -25,19 +25,19 @@ impl Machine {
     pub(crate) fn turn_answered(
         &mut self,
         pass: u64,
-        host: usize,
-        epoch: u64,
+        origin: HostEpoch,
         value: Value,
         t: u64,
     ) -> Result<Answer, Refused>
         requires { IsKept self.old }
-        ensures answered { IfOk result
-            (λ a. IsMade self.old self.new pass (events.Answered host epoch value t) a) }
+        ensures answered { IfOk result (λ a. IsMade self.old self.new pass
+            (events.Answered origin.host origin.epoch value t) a) }
         ensures refused { IfErr result
-            (λ r. IsLeft self.old self.new (events.Answered host epoch value t) r) }
+            (λ r. IsLeft self.old self.new (events.Answered origin.host origin.epoch value t) r) }
     {
+        let HostEpoch { host, epoch } = origin;
         let done = self.answer(host, epoch, &value, t);
-        self.settle(
+        self.add_step(
             pass,
             Event::Answered {
                 host,

@@ -28,13 +28,13 @@ ghost use Rattle.proxy_history.specs.Arrival.{parts_placed};
 ghost use Rattle.proxy_history.specs.declared.event.Event.TheVariants as events;
 ghost use Rattle.proxy_core.specs.Connections.{MayAccept, connection_at};
 ghost use Rattle.proxy_core.specs.Places.{AreCounted, counted_at, next_place, placed_as};
-ghost use Rattle.proxy_core.specs.Arrivals.{HasAccepted, HasRoomFor, IsAccepted, MayJoinAll, Tells, own_plan, with_arrival};
+ghost use Rattle.proxy_core.specs.Arrivals.{ArePlaced, HasAccepted, HasRoomFor, IsAccepted, MayJoinAll, Tells, own_plan, with_arrival};
 ghost use Rattle.proxy_core.specs.Core.{IsMade, IsLeft};
 ghost use Rattle.proxy_core.specs.Machine.{setting_in, memory_in, history_in, IsDone, IsKept, IsSame, IsReady, HasCauseIn};
 
 use crate::machine::{Done, Machine, make_room};
 use crate::refused::Refused;
-use crate::state::place::{Accepted, Placed, next_place};
+use crate::state::place::{Accepted, Place, Placed, next_place};
 use bytes::Bytes;
 use ketama::point_of_key;
 use limits::{MAX_COMMANDS, MAX_HOSTS};
@@ -59,7 +59,7 @@ impl Machine {
             (λ r. IsLeft self.old self.new (events.Arrived conn request) r) }
     {
         let done = self.arrive(conn, &request);
-        self.settle(pass, Event::Arrived { conn, request }, done)
+        self.add_step(pass, Event::Arrived { conn, request }, done)
     }
 
     /// Accepts the command of a connection's request. Each of its parts gets its host for good, or a value at once.
@@ -208,7 +208,7 @@ impl Machine {
         ensures refused { IfErr result (λ r. (r ≡ Refusal.NoMemory) × IsSame self.old self.new) }
     {
         self.pipelines.reserve(counts)?;
-        let index = self.connections.accept(conn, how, placed)?;
+        let index = self.connections.enqueue(conn, how, placed)?;
         Ok(Accepted::counted(index, placed))
     }
 
@@ -226,7 +226,11 @@ impl Machine {
         let mut places = [false; MAX_HOSTS];
         let usable = &mut places[..self.ring.hosts()];
         self.ejector.all_usable(usable);
-        self.place_at(usable, counts, 0, self.point_of(key), text)
+        Placed {
+            number: 0,
+            place: self.place_at(usable, counts, self.point_of(key)),
+            text,
+        }
     }
 
     fn accept_list(&mut self, conn: u64, how: Join, list: PartPlans) -> Result<Accepted, Refusal>
@@ -261,13 +265,7 @@ impl Machine {
         requires hosts { self.now.ejector.rules.hosts ≡ self.now.ring.hosts }
         requires counts { counts.old ≡ replicate (length self.now.pipelines.states) 0 }
         requires parts { length list < 2 ^ 32 }
-        ensures placed { IfOk result (λ placed. (x : Past) (conn command : ℕ)
-            → Tells (setting_in self.now) (memory_in self.now) conn x
-            → placed.items
-            ≡ map placed_as (parts_placed (setting_in self.now) x conn command [] list)) }
-        ensures counted { IfOk result
-            (λ placed. AreCounted (memory_in self.now).pipelines counts.new placed.items) }
-        ensures parts { IfOk result (λ placed. length placed.items ≡ length list) }
+        ensures { IfOk result (λ placed. ArePlaced self.now list counts.new placed.items) }
     {
         let mut places = [false; MAX_HOSTS];
         let usable = &mut places[..self.ring.hosts()];
@@ -287,13 +285,7 @@ impl Machine {
             (hosts_of self.now.ejector.rules) }
         requires counts { counts.old ≡ replicate (length self.now.pipelines.states) 0 }
         requires parts { length list < 2 ^ 32 }
-        ensures placed { IfOk result (λ placed. (x : Past) (conn command : ℕ)
-            → Tells (setting_in self.now) (memory_in self.now) conn x
-            → placed.items
-            ≡ map placed_as (parts_placed (setting_in self.now) x conn command [] list)) }
-        ensures counted { IfOk result
-            (λ placed. AreCounted (memory_in self.now).pipelines counts.new placed.items) }
-        ensures parts { IfOk result (λ placed. length placed.items ≡ length list) }
+        ensures { IfOk result (λ placed. ArePlaced self.now list counts.new placed.items) }
     {
         let mut placed = Vec::with_capacity(self.alloc, list.0.len())?;
         for plan in list.0 {
@@ -321,7 +313,11 @@ impl Machine {
             (λ h. h < length self.now.pipelines.states) }
     {
         let point = self.point_of(plan.key.as_slice());
-        self.place_at(usable, counts, number, point, plan.text)
+        Placed {
+            number,
+            place: self.place_at(usable, counts, point),
+            text: plan.text,
+        }
     }
 
     fn point_of(&self, key: &[u8]) -> u32
@@ -330,32 +326,17 @@ impl Machine {
         point_of_key(key, self.ejector.rules().settings.tags)
     }
 
-    fn place_at(
-        &self,
-        usable: &[bool],
-        counts: &mut [u16],
-        number: u32,
-        point: u32,
-        text: Bytes,
-    ) -> Placed
+    // Finds the place of a part by its key's point, and counts it for its host if it is to wait there.
+    fn place_at(&self, usable: &[bool], counts: &mut [u16], point: u32) -> Place
         requires pipelines { length self.now.pipelines.states ≡ self.now.ring.hosts }
         requires usable { length usable.now ≡ self.now.ring.hosts }
         requires counts { length counts.old ≡ length self.now.pipelines.states }
-        ensures placed { result ≡ record {
-          number = number;
-          place = next_place (memory_in self.now).pipelines counts.old
-              (owner_of self.now.ring.pairs point usable.now);
-          text = text;
-        } }
-        ensures counts { counts.new ≡ counted_at result.place counts.old }
+        ensures place { result ≡ next_place (memory_in self.now).pipelines counts.old
+            (owner_of self.now.ring.pairs point usable.now) }
+        ensures counts { counts.new ≡ counted_at result counts.old }
         ensures host { IfSome (owner_of self.now.ring.pairs point usable.now)
             (λ h. h < length self.now.pipelines.states) }
     {
-        let host = self.ring.owner(point, usable);
-        Placed {
-            number,
-            place: next_place(&self.pipelines, counts, host),
-            text,
-        }
+        next_place(&self.pipelines, counts, self.ring.owner(point, usable))
     }
 }

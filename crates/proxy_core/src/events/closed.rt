@@ -20,7 +20,7 @@ impl Machine {
         ensures refused { IfErr result (λ r. IsLeft self.old self.new (events.Closed conn) r) }
     {
         let done = self.close(conn);
-        self.settle(pass, Event::Closed { conn }, done)
+        self.add_step(pass, Event::Closed { conn }, done)
     }
 
     /// Closes a connection: its waiting parts are dropped, and the replies to its flying ones are discarded.

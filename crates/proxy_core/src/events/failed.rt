@@ -15,7 +15,7 @@ ghost use Rattle.proxy_core.specs.Core.{IsMade, IsLeft};
 ghost use Rattle.proxy_core.specs.Machine.{setting_in, memory_in, fault_mark, IsDone, IsSame, HasCauseIn, HasFailed, IsKept};
 
 use crate::events::answered::counted;
-use crate::machine::{Done, Machine, make_room};
+use crate::machine::{Done, HostEpoch, Machine, make_room};
 use crate::refused::Refused;
 use ejector::{Ejector, Trip};
 use proxy_history::{Answer, Event, Kind, Refusal};
@@ -25,19 +25,19 @@ impl Machine {
     pub(crate) fn turn_failed(
         &mut self,
         pass: u64,
-        host: usize,
-        epoch: u64,
+        origin: HostEpoch,
         kind: Kind,
         t: u64,
     ) -> Result<Answer, Refused>
         requires { IsKept self.old }
         ensures answered { IfOk result
-            (λ a. IsMade self.old self.new pass (events.Failed host epoch kind t) a) }
+            (λ a. IsMade self.old self.new pass (events.Failed origin.host origin.epoch kind t) a) }
         ensures refused { IfErr result
-            (λ r. IsLeft self.old self.new (events.Failed host epoch kind t) r) }
+            (λ r. IsLeft self.old self.new (events.Failed origin.host origin.epoch kind t) r) }
     {
+        let HostEpoch { host, epoch } = origin;
         let done = self.fail(host, epoch, kind, t);
-        self.settle(
+        self.add_step(
             pass,
             Event::Failed {
                 host,

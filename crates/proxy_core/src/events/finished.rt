@@ -18,7 +18,7 @@ impl Machine {
         ensures refused { IfErr result (λ r. IsLeft self.old self.new (events.Finished conn) r) }
     {
         let done = self.finish(conn);
-        self.settle(pass, Event::Finished { conn }, done)
+        self.add_step(pass, Event::Finished { conn }, done)
     }
 
     /// The connection accepts no further command.

@@ -26,7 +26,7 @@ impl Machine {
         ensures refused { IfErr result (λ r. IsLeft self.old self.new (events.Handed conn) r) }
     {
         let done = self.hand(conn);
-        self.settle(pass, Event::Handed { conn }, done)
+        self.add_step(pass, Event::Handed { conn }, done)
     }
 
     /// Hands out the reply to the oldest command of the connection.

@@ -17,7 +17,7 @@ impl Machine {
         ensures refused { IfErr result (λ r. IsLeft self.old self.new events.Opened r) }
     {
         let done = self.open();
-        self.settle(pass, Event::Opened, done)
+        self.add_step(pass, Event::Opened, done)
     }
 
     /// Opens a connection. Its number is the number of connections opened before.

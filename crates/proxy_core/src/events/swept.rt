@@ -21,7 +21,7 @@ impl Machine {
         ensures refused { IfErr result (λ r. IsLeft self.old self.new (events.Swept t) r) }
     {
         let done = self.sweep(t);
-        self.settle(pass, Event::Swept { t }, done)
+        self.add_step(pass, Event::Swept { t }, done)
     }
 
     pub(crate) fn sweep(&mut self, t: u64) -> Result<Done, Refusal>

@@ -20,7 +20,7 @@ impl Machine {
         ensures refused { IfErr result (λ r. IsLeft self.old self.new (events.Taken host) r) }
     {
         let done = self.take(host);
-        self.settle(pass, Event::Taken { host }, done)
+        self.add_step(pass, Event::Taken { host }, done)
     }
 
     /// Takes the oldest part that waits for the host; it flies from now on.

@@ -205,7 +205,12 @@ impl Connections {
 
     /// Accepts a command of the connection with placed parts, behind the others, and returns its index. Parts that got
     /// a value at once have it.
-    pub(crate) fn accept(&mut self, conn: u64, how: Join, placed: &[Placed]) -> Result<u64, Refusal>
+    pub(crate) fn enqueue(
+        &mut self,
+        conn: u64,
+        how: Join,
+        placed: &[Placed],
+    ) -> Result<u64, Refusal>
         requires open { MayAccept (connection_at conn self.old.numbered) }
         requires join { MayJoin how (length placed.now) }
         requires parts { length placed.now < 2 ^ 32 }

@@ -1,5 +1,5 @@
 -- Heads that are read a byte at a time.
-use Rattle.std.proofs.Common.{◌≡◌, ℕ, zero, suc, ◌+◌, ◌-◌, ◌<◌, List, [], ◌∷◌, ◌++◌, length, get_or, take, drop, drop-cons, refl, sym, ap, ◌∙◌, append-nil, Some, arith}
+use Rattle.std.proofs.Common.{◌≡◌, ◌≢◌, ℕ, false, Result, Ok, Err, zero, suc, ◌+◌, ◌-◌, ◌<◌, List, [], ◌∷◌, ◌++◌, length, get_or, take, drop, drop-cons, refl, sym, ap, ◌∙◌, append-nil, Some, arith}
 use Rattle.std.proofs.lemmas.List.{take-append-drop, take_all}
 use Rattle.resp_core.specs.declared.error.Refusal.{Refusal}
 use Rattle.resp_core.specs.declared.head.Head.{Head}
@@ -9,7 +9,8 @@ use Rattle.resp_core.specs.declared.head.Next.{Next}
 use Rattle.resp_core.specs.declared.head.Next.TheVariants as nexts
 use Rattle.resp_core.specs.declared.head.Head.TheVariants as heads
 use Rattle.resp_core.specs.Reading.{unfinished, refused, found, and_then, payload_at, members_at, value_at, leaf_at, bulk_at, list_at, byte_at, null_end_at, count_at, digits_at, integer_at}
-use Rattle.resp_core.specs.ResumedReading.{head_at, next_at, limit_of, found_of, GoesOn}
+use Rattle.resp_core.specs.Grammar.{max_line}
+use Rattle.resp_core.specs.ResumedReading.{head_at, next_at, limit_of, found_of, GoesOn, Steps}
 
 front_suc : (b : List ℕ) (i : ℕ) (y : List ℕ) → i < length b → take (suc i) b ++ y ≡ take i b ++ get_or b i 0 ∷ y
 front_suc [] i y h = absurd (omega arith)
@@ -75,3 +76,18 @@ head_at_nil most left (heads.Feed f) = refl
 pub head_unfinished : (most left k : ℕ) (h next : Head) (b : List ℕ) → GoesOn most left h (take k b) (nexts.Head next) → k ≡ length b → head_at most left h b ≡ unfinished
 head_unfinished most left k h next b g e =
     ap (head_at most left h) (sym (append-nil (take k b) ∙ take_all k b (omega (arith, e)))) ∙ g [] ∙ head_at_nil most left next
+
+-- a byte leads as far from one head as from another that is read like it from there
+steps_like : (most left : ℕ) (h k : Head) (c : ℕ) (r : Result Next Refusal) → ((cs : List ℕ) → head_at most left h (c ∷ cs) ≡ head_at most left k (c ∷ cs)) → Steps most left k c r → Steps most left h c r
+steps_like most left h k c (Ok next) same steps = λ cs. same cs ∙ steps cs
+steps_like most left h k c (Err refusal) same steps = λ cs. same cs ∙ steps cs
+
+-- the first byte of an integer without a sign is that of its digits
+pub steps_unsigned : (most left c : ℕ) (r : Result Next Refusal) → c ≢ 43 → c ≢ 45 → Steps most left (heads.Number false max_line 0 0) c r → Steps most left heads.Sign c r
+unfolding integer_at
+steps_unsigned most left c r plus minus steps = steps_like most left heads.Sign (heads.Number false max_line 0 0) c r (λ cs. grind (arith, plus, minus)) steps
+
+-- the first byte of a length that is no null's is that of its digits
+pub steps_digits : (most left : ℕ) (s : Sized) (c : ℕ) (r : Result Next Refusal) → c ≢ 45 → Steps most left (heads.Digits s 0 0) c r → Steps most left (heads.Length s) c r
+unfolding count_at
+steps_digits most left s c r minus steps = steps_like most left (heads.Length s) (heads.Digits s 0 0) c r (λ cs. grind (arith, minus)) steps

@@ -1,4 +1,5 @@
-use Rattle.std.proofs.Common.{arith}
+use Rattle.std.proofs.Common.{arith, refl}
+use Rattle.std.proofs.lemmas.Option.{slice_get_read}
 use Rattle.proxy_connections.proofs.WorkerConnectionLemmas.{rises_past, rises_to}
 use Rattle.proxy_connections.proofs.worker_connections.push_host.Goals as goal
 
@@ -10,3 +11,4 @@ returns c = λ rises.
     rises_to _ _ _ _ c.in_ok-push.ensures.items rises c.new.ensures.host
     (c.has.ensures.0 (grind (arith, c.if-not-has.false)))
     c.new.ensures.carries
+    (c.index-entry.result.now, rw c.new.ensures.host (slice_get_read c.args.config.now.hosts.items _ c.args.host c.index-entry.result.now refl c.requires.there c.index-entry.ensures), c.new.ensures.address)

@@ -9,10 +9,10 @@ use Rattle.proxy_engines.proofs.one_turn.offer_event.Goals as goal
 pub returns-in-Ok-clause-answered : goal.returns-in-Ok-clause-answered
 returns-in-Ok-clause-answered g c =
     let makes = c.in-Ok.ensures.answered in
-    let (_, same_pass, _) = c.turn.ensures.same in
-    let pass = g.T.Turns.pass c.args.turns.now in
-    let before = g.T.Turns.seen c.args.turns.now in
-    let after = g.T.Turns.seen c.turn.new.self in
+    let same_pass = c.turn.ensures.same.pass in
+    let pass = (g.T.Turns.facts c.args.turns.now).pass in
+    let before = (g.T.Turns.facts c.args.turns.now).seen in
+    let after = (g.T.Turns.facts c.turn.new.self).seen in
     record {
       steps = rw same_pass (own_steps-push pass before after c.args.event c.in-Ok.answer makes.own);
       fits = g.met.T.CoreTurns.laws.answers_fit _ (before ++ makes.between) (step_by pass c.args.event c.in-Ok.answer) (rw makes.ends at makes.is_legal);
@@ -22,25 +22,25 @@ returns-in-Ok-clause-answered g c =
 pub returns-in-Ok-clause-turns : goal.returns-in-Ok-clause-turns
 returns-in-Ok-clause-turns g c =
     record {
-      pass_is = let (_, pass, _) = c.turn.ensures.same in pass;
-      setting_is = let (_, _, setting) = c.turn.ensures.same in setting;
+      pass_is = c.turn.ensures.same.pass;
+      setting_is = c.turn.ensures.same.setting;
       begins = let makes = c.in-Ok.ensures.answered in
-          (makes.between ++ step_by (g.T.Turns.pass c.args.turns.now) c.args.event c.in-Ok.answer ∷ [], makes.ends ∙ append_assoc (g.T.Turns.seen c.args.turns.now) makes.between _);
+          (makes.between ++ step_by (g.T.Turns.facts c.args.turns.now).pass c.args.event c.in-Ok.answer ∷ [], makes.ends ∙ append_assoc (g.T.Turns.facts c.args.turns.now).seen makes.between _);
     }
 
 pub returns-in-Err-Spent-clause-turns : goal.returns-in-Err-Spent-clause-turns
 returns-in-Err-Spent-clause-turns g c =
     record {
-      pass_is = let (_, pass, _) = c.turn.ensures.same in pass;
-      setting_is = let (_, _, setting) = c.turn.ensures.same in setting;
+      pass_is = c.turn.ensures.same.pass;
+      setting_is = c.turn.ensures.same.setting;
       begins = let (back, same, _) = rw c.in-Err-Spent.field-0-is at c.in-Err-Spent.ensures.refused in rw same (starts_same _);
     }
 
 pub returns-in-Err-State-clause-turns : goal.returns-in-Err-State-clause-turns
 returns-in-Err-State-clause-turns g c =
     record {
-      pass_is = let (_, pass, _) = c.turn.ensures.same in pass;
-      setting_is = let (_, _, setting) = c.turn.ensures.same in setting;
+      pass_is = c.turn.ensures.same.pass;
+      setting_is = c.turn.ensures.same.setting;
       begins = let (back, refused) = rw c.in-Err-State.field-0-is at c.in-Err-State.ensures.refused in refused.0.begins;
     }
 
@@ -65,7 +65,7 @@ returns-in-Err-Spent-clause-back g c = let (back, same, _) = rw c.in-Err-Spent.f
 pub returns-in-Err-Spent-clause-denied : goal.returns-in-Err-Spent-clause-denied
 returns-in-Err-Spent-clause-denied g c =
     record {
-      rests = let (back, same, _) = rw c.in-Err-Spent.field-0-is at c.in-Err-Spent.ensures.refused in let (_, same_pass, _) = c.turn.ensures.same in rw same_pass (ap (own_steps (g.T.Turns.pass c.args.turns.now)) same);
+      rests = let (back, same, _) = rw c.in-Err-Spent.field-0-is at c.in-Err-Spent.ensures.refused in rw c.turn.ensures.same.pass (ap (own_steps (g.T.Turns.facts c.args.turns.now).pass) same);
       due = tt;
     }
 
@@ -81,6 +81,6 @@ returns-in-Err-State-clause-back g c = let (back, refused) = rw c.in-Err-State.f
 pub returns-in-Err-State-clause-denied : goal.returns-in-Err-State-clause-denied
 returns-in-Err-State-clause-denied g c =
     record {
-      rests = let (back, refused) = rw c.in-Err-State.field-0-is at c.in-Err-State.ensures.refused in let (_, same_pass, _) = c.turn.ensures.same in rw same_pass (ap history_of_seen refused.0.own);
+      rests = let (back, refused) = rw c.in-Err-State.field-0-is at c.in-Err-State.ensures.refused in rw c.turn.ensures.same.pass (ap history_of_seen refused.0.own);
       due = let (back, refused) = rw c.in-Err-State.field-0-is at c.in-Err-State.ensures.refused in refused.1;
     }

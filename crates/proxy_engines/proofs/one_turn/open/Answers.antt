@@ -8,8 +8,8 @@ returns-clause-new g c =
     elim c.match-make_turn.branch [
       | in-Ok-Opened w ↦
           let makes = rw w.in-Ok-Opened.field-0-is at w.in-Ok-Opened.ensures.added in
-          let before = g.T.Turns.seen c.args.turns.now in
-          rw w.result-is (connection_steps-own_steps w.in-Ok-Opened.conn (g.T.Turns.pass c.args.turns.now) before makes.between
+          let before = (g.T.Turns.facts c.args.turns.now).seen in
+          rw w.result-is (connection_steps-own_steps w.in-Ok-Opened.conn (g.T.Turns.facts c.args.turns.now).pass before makes.between
           (g.met.T.CoreTurns.laws.openings_are_new _ (before ++ makes.between) _ w.in-Ok-Opened.conn (rw makes.ends at makes.is_legal)))
       | in-Err w ↦ rw w.result-is tt
     ]

@@ -7,17 +7,17 @@ use Rattle.proxy_local.proofs.local.step_hosts.Goals as goal
 use Rattle.proxy_local.proofs.local.step_hosts.Goals.{then-not-branch, else-not-branch}
 
 pub loop-host-init : goal.loop-host-init
-loop-host-init g c = record { turns = keeps_same _ _ _ _; beside = IsBeside-none _; idle = λ _. refl }
+loop-host-init g c = record { turns = keeps_same _; beside = IsBeside-none _; idle = λ _. refl }
 
 pub loop-host-preserved : goal.loop-host-preserved
 loop-host-preserved g c =
     let inv = c.loop-host.invariant in
-    let cause = g.T.Turns.cause (g.T.Turns.setting c.args.turns.now) in
-    let first = g.T.Turns.seen c.args.turns.now in
-    let before = g.T.Turns.seen c.loop-host.turns in
-    let after = g.T.Turns.seen c.step_host.new.turns in
+    let cause = g.T.Turns.cause (g.T.Turns.facts c.args.turns.now).setting in
+    let first = (g.T.Turns.facts c.args.turns.now).seen in
+    let before = (g.T.Turns.facts c.loop-host.turns).seen in
+    let after = (g.T.Turns.facts c.step_host.new.turns).seen in
     record {
-      turns = keeps_then _ _ _ _ _ _ inv.turns c.step_host.ensures.turns;
+      turns = keeps_then _ _ _ inv.turns c.step_host.ensures.turns;
       beside = IsBeside-then _ _ _ inv.beside c.step_host.ensures.beside;
       idle = elim c.if-not-branch.branch [
         | then-not-branch w ↦ rw w.are_idle-is (λ e. absurd cc)
@@ -29,7 +29,7 @@ loop-host-preserved g c =
     }
 
 pub returns-in_err-step_host-clause-turns : goal.returns-in_err-step_host-clause-turns
-returns-in_err-step_host-clause-turns g c = keeps_then _ _ _ _ _ _ c.loop-host.invariant.turns c.step_host.ensures.turns
+returns-in_err-step_host-clause-turns g c = keeps_then _ _ _ c.loop-host.invariant.turns c.step_host.ensures.turns
 
 pub returns-in_err-step_host-clause-beside : goal.returns-in_err-step_host-clause-beside
 returns-in_err-step_host-clause-beside g c =
@@ -37,4 +37,4 @@ returns-in_err-step_host-clause-beside g c =
 
 pub returns-clause-idle : goal.returns-clause-idle
 returns-clause-idle g c = λ e.
-    first_all (RestsIdle (g.T.Turns.cause (g.T.Turns.setting c.args.turns.now)) (g.T.Turns.seen c.args.turns.now) (g.T.Turns.seen c.loop-host.turns)) c.loop-host.host-index c.args.hosts.now c.loop-host.hosts (c.loop-host.invariant.idle e) c.loop-host-test.false
+    first_all (RestsIdle (g.T.Turns.cause (g.T.Turns.facts c.args.turns.now).setting) (g.T.Turns.facts c.args.turns.now).seen (g.T.Turns.facts c.loop-host.turns).seen) c.loop-host.host-index c.args.hosts.now c.loop-host.hosts (c.loop-host.invariant.idle e) c.loop-host-test.false

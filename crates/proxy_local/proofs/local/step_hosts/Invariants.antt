@@ -6,7 +6,7 @@ use Rattle.proxy_local.proofs.local.step_hosts.Given as goal
 
 abbrev pub invariant-loop-host : goal.invariant-loop-host
 invariant-loop-host g l = record {
-  turns : KeepsTurns g.T.Turns.pass g.T.Turns.setting g.T.Turns.seen l.fn.turns l.turns;
-  beside : IsBeside (own_history g.T.Turns.pass g.T.Turns.seen l.fn.turns) (own_history g.T.Turns.pass g.T.Turns.seen l.turns);
-  idle : l.are_idle ≡ true → FirstZip (RestsIdle (g.T.Turns.cause (g.T.Turns.setting l.fn.turns)) (g.T.Turns.seen l.fn.turns) (g.T.Turns.seen l.turns)) l.host-index l.fn.hosts l.hosts;
+  turns : KeepsTurns (g.T.Turns.facts l.fn.turns) (g.T.Turns.facts l.turns);
+  beside : IsBeside (own_history (g.T.Turns.facts l.fn.turns)) (own_history (g.T.Turns.facts l.turns));
+  idle : l.are_idle ≡ true → FirstZip (RestsIdle (g.T.Turns.cause (g.T.Turns.facts l.fn.turns).setting) (g.T.Turns.facts l.fn.turns).seen (g.T.Turns.facts l.turns).seen) l.host-index l.fn.hosts l.hosts;
 }

@@ -10,30 +10,30 @@ use Rattle.test_reference.proofs.arrival.place_all.Goals as goal
 
 pub loop-plan-preserved : goal.loop-plan-preserved
 loop-plan-preserved c = λ S marks ring tags us.
-    let past = past_of_scan c.args.steps.now marks c.args.replay.now in
-    let n = accepted_count c.args.conn (history_of c.args.steps.now) in
+    let past = past_of_scan c.args.past.now.steps.now marks c.args.past.now.replay.now in
+    let n = accepted_count c.args.conn (history_of c.args.past.now.steps.now) in
     let p = c.plan-item.result in
     let list = c.args.list.now in
     let placed = c.loop-plan.placed.items in
     let part = c.in_ok-part.part in
     let host = c.owner-host.result in
     let same : c.deref-plan-items.result.now ≡ list = cc in
-    let owner : host ≡ owner_of c.args.ring.now.pairs (point_of p.key c.args.tags) c.args.usable.now = cc in
+    let owner : host ≡ owner_of c.args.owners.now.ring.now.pairs (point_of p.key c.args.owners.now.tags) c.args.owners.now.usable.now = cc in
     let here : p ≡ get_or list c.loop-plan.plan-index p = c.plan-item.is ∙ ap (λ z. get_or z c.loop-plan.plan-index p) same in
     let inside : c.loop-plan.plan-index < length list = rw (← same) c.loop-plan-test.true in
     let made : part_of part ≡ with_host past (parts_of placed) host (hostless c.args.conn n (length placed) p) =
     subst (λ z. part_of part ≡ with_host past (parts_of z) host (hostless c.args.conn n (length z) p)) c.deref.ensures.value
     (subst (λ z. part_of part ≡ with_host past (parts_of c.deref.result.now) host (hostless c.args.conn z (length c.deref.result.now) p)) c.times-command.ensures c.in_ok-part.ensures) in
     let is_placed : part_of part ≡ placed_part S past c.args.conn n (parts_of placed) p =
-    part_of-placed S past c.args.conn n placed p c.args.ring.now.pairs c.args.tags c.args.usable.now host part (ap (λ z. z.pairs) ring) tags us owner made in
+    part_of-placed S past c.args.conn n placed p c.args.owners.now.ring.now.pairs c.args.owners.now.tags c.args.owners.now.usable.now host part (ap (λ z. z.pairs) ring) tags us owner made in
     ap (λ z. parts_placed S past c.args.conn n (parts_of z) (drop (c.loop-plan.plan-index + 1) list)) c.in_ok-push.ensures.items
     ∙ placing-more S past c.args.conn n placed part list c.loop-plan.plan-index p inside (is_placed ∙ ap (placed_part S past c.args.conn n (parts_of placed)) here)
     ∙ c.loop-plan.invariant S marks ring tags us
 
 pub returns : goal.returns
 returns c = λ S marks ring tags us.
-    let past = past_of_scan c.args.steps.now marks c.args.replay.now in
-    let n = accepted_count c.args.conn (history_of c.args.steps.now) in
+    let past = past_of_scan c.args.past.now.steps.now marks c.args.past.now.replay.now in
+    let n = accepted_count c.args.conn (history_of c.args.past.now.steps.now) in
     let list = c.args.list.now in
     let same : c.deref-plan-items.result.now ≡ list = cc in
     let end : length list ≤ c.loop-plan.plan-index = rw (← same) c.loop-plan-test.false in

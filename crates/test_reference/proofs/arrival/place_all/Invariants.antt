@@ -8,7 +8,7 @@ use Rattle.test_reference.specs.Scan.{history_of, parts_of, past_of_scan}
 use Rattle.test_reference.proofs.arrival.place_all.Given as goal
 
 abbrev pub invariant-loop-plan : goal.invariant-loop-plan
-invariant-loop-plan l = (S : Setting) (marks : List Mark) → S.ring ≡ l.ring → S.rules.settings.tags ≡ l.tags
-    → usable_flags S (past_of_scan l.steps marks l.replay) ≡ l.usable
-    → parts_placed S (past_of_scan l.steps marks l.replay) l.conn (accepted_count l.conn (history_of l.steps)) (parts_of l.placed.items) (drop l.plan-index l.list)
-    ≡ parts_placed S (past_of_scan l.steps marks l.replay) l.conn (accepted_count l.conn (history_of l.steps)) [] l.list
+invariant-loop-plan l = (S : Setting) (marks : List Mark) → S.ring ≡ l.owners.ring.now → S.rules.settings.tags ≡ l.owners.tags
+    → usable_flags S (past_of_scan l.past.steps.now marks l.past.replay.now) ≡ l.owners.usable.now
+    → parts_placed S (past_of_scan l.past.steps.now marks l.past.replay.now) l.conn (accepted_count l.conn (history_of l.past.steps.now)) (parts_of l.placed.items) (drop l.plan-index l.list)
+    ≡ parts_placed S (past_of_scan l.past.steps.now marks l.past.replay.now) l.conn (accepted_count l.conn (history_of l.past.steps.now)) [] l.list

@@ -1,4 +1,4 @@
-use Rattle.std.proofs.Common.{false, [], ◌∷◌, max, refl, subst, rules}
+use Rattle.std.proofs.Common.{false, [], ◌∷◌, max, length, refl, subst, rules}
 use Rattle.std.specs.declared.net.socket_addr.SocketAddr.{SocketAddr}
 use Rattle.std.specs.declared.net.socket_addr.SocketAddr.TheVariants.{V4}
 use Rattle.serde_json.specs.Find.{get}
@@ -6,6 +6,7 @@ use Rattle.serde_json.specs.View.{view}
 use Rattle.proxy_config.specs.Values.{Values}
 use Rattle.proxy_config.specs.File.{IsFaultOf, MemoryOr}
 use Rattle.proxy_config.specs.Table.{Fits, IsNumberOr, AreWeightsOr, name_of, Listen, Hosts, Weights, Workers, ReplyMs, Tags, IntervalMs, BaseMs, MaxMs, MaxPercent, Consecutive, SuccessHosts, RequestVolume, Factor, PanicPercent}
+use Rattle.proxy_config.proofs.RingPartLemmas.{ring_parts}
 use Rattle.proxy_config.proofs.FirstFaultLemmas.{first_fault, told, told_or_memory, one_number, one_length}
 use Rattle.proxy_config.proofs.config.Config.from_object.Goals as goal
 
@@ -155,3 +156,8 @@ returns-in_err-panic_percent-clause-refused c =
     let m : Fits MaxMs (get (name_of MaxMs) file) v = c.in_ok-max_ms.ensures.ok in
     let t : MemoryOr (IsFaultOf file) e = told file PanicPercent e c.in_err-panic_percent.ensures.fault (first_fault file (Listen ∷ Hosts ∷ Weights ∷ Workers ∷ ReplyMs ∷ Tags ∷ IntervalMs ∷ BaseMs ∷ MaxMs ∷ MaxPercent ∷ Consecutive ∷ SuccessHosts ∷ RequestVolume ∷ Factor ∷ []) PanicPercent ([]) v refl (c.in_ok-listen.ensures.ok, (c.in_ok-hosts.ensures.ok, (w_fit, (c.in_ok-workers.ensures.ok, (c.in_ok-reply_ms.ensures.ok, (c.in_ok-tags.ensures.ok, (c.in_ok-interval_ms.ensures.ok, (c.in_ok-base_ms.ensures.ok, (m, (c.in_ok-max_percent.ensures.ok, (c.in_ok-consecutive.ensures.ok, (c.in_ok-success_hosts.ensures.ok, (c.in_ok-request_volume.ensures.ok, (c.in_ok-factor.ensures.ok, tt)))))))))))))) (λ w fit f. c.in_err-panic_percent.ensures.none w.panic_percent f)) in
     search (rules, t)
+
+pub invariant_of-result : goal.invariant_of-result
+invariant_of-result c =
+    let weighed : AreWeightsOr (length c.in_ok-hosts.hosts.items) (get (name_of Weights) (view c.args.file.now)) c.in_ok-weights.weights.items = rw (← c.deref.ensures.value) (c.in_ok-weights.ensures.ok) in
+    record { parts = ∣ ring_parts _ _ _ _ c.in_ok-hosts.ensures.ok weighed ∣₁ }

@@ -1,4 +1,5 @@
 use Rattle.std.proofs.Common.{◌≡◌, length, map, ap, ◌∙◌, arith, rules}
+use Rattle.std.proofs.Math.Logic.{∥∥₁_elim}
 use Rattle.std.proofs.lemmas.List.{map_more, take_all, length-map}
 use Rattle.ketama.specs.Ketama.{AreWeights, HasSameName}
 use Rattle.proxy_config.specs.declared.config.Host.{Host}
@@ -18,7 +19,9 @@ unreachable-requires c =
     let done = take_all c.loop-host.host-index c.deref-host-items.result.now c.loop-host-test.false in
     let names : c.deref.result.now ≡ map (λ (h : Host). h.name) hosts = c.deref.ensures.value ∙ c.loop-host.invariant ∙ ap (map (λ (h : Host). h.name)) (done ∙ c.deref-host-items.ensures.value) in
     let many : length c.deref.result.now ≡ length hosts = ap length names ∙ length-map hosts (λ (h : Host). h.name) in
-    let distinct : ¬ HasSameName c.deref.result.now = rw names (no_same_name hosts c.requires.distinct) in
-    let weighed : AreWeights (length c.deref.result.now) c.deref-2.result.now = rw (many, c.deref-2.ensures.value) c.requires.weighed in
-    let good = c.build.ensures.good (omega (arith, many, c.requires.few)) weighed distinct in
-    search (rules, good)
+    let none : ⊥ = ∥∥₁_elim c.args.self.now.parts (λ a b. absurd a) (λ parts.
+    let distinct : ¬ HasSameName c.deref.result.now = rw names (no_same_name hosts parts.distinct) in
+    let weighed : AreWeights (length c.deref.result.now) c.deref-2.result.now = rw (many, c.deref-2.ensures.value) parts.weighed in
+    let good = c.build.ensures.good (omega (arith, many, parts.few)) weighed distinct in
+    search (rules, good)) in
+    absurd none

@@ -7,7 +7,7 @@ use Rattle.proxy_connections.proofs.client_connection.CarriedSocket.into_client.
 
 pub returns-in-Ok-clause-ok : goal.returns-in-Ok-clause-ok
 returns-in-Ok-clause-ok g c =
-    rw c.new-client.ensures
+    rw c.new-client.ensures.engine
     (reopens_socket _ _ _ _ _ c.in-Ok.engine c.in-Ok.ensures.opened _ _ _ c.in-Ok.ensures.carries
     (ap (λ (r : SocketReaderState). r.end.delivered) c.set_readable.ensures)
     (ap (λ (w : SocketWriterState). accepted w.output) c.set_writable.ensures)

@@ -3,4 +3,4 @@ use Rattle.proxy_connections.proofs.client_connection.ClientConnection.carry.Goa
 
 pub invariant_of-result : goal.invariant_of-result
 invariant_of-result c =
-    leaves_socket c.args.self.engine c.in_ok-reader.rest _ _ c.requires c.in_ok-reader.ensures.left c.in_ok-reader.ensures.logs.0 c.in_ok-reader.ensures.logs.1
+    leaves_socket c.args.self.engine c.in-Some.rest _ _ c.requires.carries c.in-Some.ensures.left c.in-Some.ensures.logs.0 c.in-Some.ensures.logs.1

@@ -1,14 +1,18 @@
+use Rattle.std.proofs.Common.{◌∙◌, refl}
 use Rattle.proxy_connections.proofs.SocketLemmas.{KeepsHost-same, KeepsHost-then}
 use Rattle.proxy_connections.proofs.host_connection.HostConnection.step_engine.Goals as goal
 
 pub loop-init : goal.loop-init
-loop-init g c = KeepsHost-same _ _
+loop-init g c = (KeepsHost-same _ _, refl)
 
 pub loop-preserved : goal.loop-preserved
-loop-preserved g c = KeepsHost-then _ _ _ _ _ _ c.loop.invariant c.go_on.ensures
+loop-preserved g c = (
+  KeepsHost-then _ _ _ _ _ _ c.loop.invariant.0 c.go_on.ensures.keeps,
+  c.go_on.ensures.address ∙ c.loop.invariant.1,
+)
 
-pub returns-in_err-go_on : goal.returns-in_err-go_on
-returns-in_err-go_on g c = KeepsHost-then _ _ _ _ _ _ c.loop.invariant c.go_on.ensures
+pub returns-in_err-go_on-clause-keeps : goal.returns-in_err-go_on-clause-keeps
+returns-in_err-go_on-clause-keeps g c = KeepsHost-then _ _ _ _ _ _ c.loop.invariant.0 c.go_on.ensures.keeps
 
-pub returns-in-Waits : goal.returns-in-Waits
-returns-in-Waits g c = KeepsHost-then _ _ _ _ _ _ c.loop.invariant c.go_on.ensures
+pub returns-in-Waits-clause-keeps : goal.returns-in-Waits-clause-keeps
+returns-in-Waits-clause-keeps g c = KeepsHost-then _ _ _ _ _ _ c.loop.invariant.0 c.go_on.ensures.keeps

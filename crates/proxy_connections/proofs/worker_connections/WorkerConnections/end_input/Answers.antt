@@ -3,7 +3,7 @@ use Rattle.proxy_connections.proofs.WorkerConnectionLemmas.{changes_same, serves
 use Rattle.proxy_connections.proofs.worker_connections.WorkerConnections.end_input.Goals as goal
 
 pub invariant_of-self-2 : goal.invariant_of-self-2
-invariant_of-self-2 c = serves_same _ _ _ c.in-Some.client.now _ _ (sym c.in-Some.ensures.value) c.end_input.ensures c.self.invariant
+invariant_of-self-2 c = serves_same _ _ _ c.in-Some.client.now _ _ (sym c.in-Some.ensures.value) c.end_input.ensures.engine c.self.invariant
 
 pub returns : goal.returns
-returns c = rw (← c.self.view_is) (changes_same _ _ _ c.in-Some.client.now _ _ (sym c.in-Some.ensures.value) c.end_input.ensures)
+returns c = rw (← c.self.view_is) (changes_same _ _ _ c.in-Some.client.now _ _ (sym c.in-Some.ensures.value) c.end_input.ensures.engine)

@@ -10,4 +10,4 @@ insert-requires g c = is_newcomer _ _ _ _ _ c.in-Ok.ensures.ok c.self.invariant
 pub returns-in-Ok : goal.returns-in-Ok
 returns-in-Ok g c =
     rw (← c.self.view_is)
-    (adds_opened _ _ c.insert.ensures.place c.insert.ensures.hosts c.insert.ensures.stay c.in-Ok.client.engine _ c.in-Ok.ensures.ok c.insert.ensures.steps)
+    (adds_opened _ _ c.insert.ensures.place c.insert.ensures.settings c.insert.ensures.hosts c.insert.ensures.stay c.in-Ok.client.engine _ c.in-Ok.ensures.ok c.insert.ensures.steps)

@@ -6,9 +6,9 @@ returns-then-not-may_go g c = rw (← c.self.view_is) (changes_same_host _ _ _ c
 
 pub invariant_of-self-2 : goal.invariant_of-self-2
 invariant_of-self-2 g c =
-    serves_host _ _ _ c.in-Some.host.now c.run_once-stepped.new.self _ _ c.in-Some.ensures.item.3.0 c.in-Some.ensures.value c.run_once-stepped.ensures c.self.invariant
+    serves_host _ _ _ c.in-Some.host.now c.run_once-stepped.new.self _ _ c.in-Some.ensures.item.3.0 c.in-Some.ensures.value c.run_once-stepped.ensures.keeps c.run_once-stepped.ensures.address c.self.invariant
 
 pub returns : goal.returns
 returns g c =
     rw (← c.self.view_is)
-    (changes_host _ _ _ c.in-Some.host.now c.run_once-stepped.new.self _ _ c.in-Some.ensures.item.3.0 c.in-Some.ensures.value c.run_once-stepped.ensures)
+    (changes_host _ _ _ c.in-Some.host.now c.run_once-stepped.new.self _ _ c.in-Some.ensures.item.3.0 c.in-Some.ensures.value c.run_once-stepped.ensures.keeps)

@@ -7,14 +7,14 @@ use Rattle.proxy_core.proofs.machine.Machine.accept_placed.Goals as goal
 pub reserve-requires : goal.reserve-requires
 reserve-requires c = c.requires.counted.as_many
 
-pub accept-requires-clause-open : goal.accept-requires-clause-open
-accept-requires-clause-open c = c.requires.open
+pub enqueue-requires-clause-open : goal.enqueue-requires-clause-open
+enqueue-requires-clause-open c = c.requires.open
 
-pub accept-requires-clause-join : goal.accept-requires-clause-join
-accept-requires-clause-join c = c.requires.join
+pub enqueue-requires-clause-join : goal.enqueue-requires-clause-join
+enqueue-requires-clause-join c = c.requires.join
 
-pub accept-requires-clause-parts : goal.accept-requires-clause-parts
-accept-requires-clause-parts c = c.requires.parts
+pub enqueue-requires-clause-parts : goal.enqueue-requires-clause-parts
+enqueue-requires-clause-parts c = c.requires.parts
 
 pub returns-clause-accepted : goal.returns-clause-accepted
 returns-clause-accepted c = record {

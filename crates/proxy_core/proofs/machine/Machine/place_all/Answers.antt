@@ -55,7 +55,13 @@ loop-plan-preserved c =
           rw items (one_more S x conn command c.args.list placed p rest pipelines counts host its within of_host c.loop-plan.invariant.counted so_far);
     }
 
-pub returns-clause-placed : goal.returns-clause-placed
-returns-clause-placed c = λ x conn command tells.
-    all_placed (setting_in c.args.self.now) x conn command c.args.list c.loop-plan.placed.items (into_iter_items c.loop-plan.plan-iterator) (grind (arith, common_steps))
-    (c.loop-plan.invariant.placed x conn command tells)
+pub returns : goal.returns
+returns c =
+    let none_left : length (into_iter_items c.loop-plan.plan-iterator) ≡ 0 = grind (arith, common_steps) in
+    record {
+      placed = λ x conn command tells.
+          all_placed (setting_in c.args.self.now) x conn command c.args.list c.loop-plan.placed.items (into_iter_items c.loop-plan.plan-iterator) (grind (arith, common_steps))
+          (c.loop-plan.invariant.placed x conn command tells);
+      counted = c.loop-plan.invariant.counted;
+      parts = omega (arith, c.loop-plan.invariant.left, none_left);
+    }

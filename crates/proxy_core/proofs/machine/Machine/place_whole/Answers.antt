@@ -9,7 +9,7 @@ use Rattle.splitter.specs.Part.{part_of}
 use Rattle.proxy_history.specs.Arrival.{usable_flags, host_for}
 use Rattle.proxy_history.specs.Waiting.{waiting_parts}
 use Rattle.proxy_core.specs.Places.{AreCounted}
-use Rattle.proxy_core.specs.declared.state.place.Placed.{Placed}
+use Rattle.proxy_core.specs.declared.state.place.Place.{Place}
 use Rattle.proxy_core.specs.Pipelines.{pipeline_at}
 use Rattle.proxy_core.specs.Machine.{setting_in, memory_in}
 use Rattle.proxy_core.proofs.arrivals.PlaceLemmas.{one_more, counted_more, none_counted, all_placed, none_so_far, within_hosts}
@@ -38,7 +38,7 @@ returns-clause-placed c = λ x conn command tells.
     let its : host_for S x p.key ≡ host = ap (owner_of m.ring.pairs (point_of p.key m.ejector.rules.settings.tags)) known ∙ ap (λ z. owner_of m.ring.pairs z usable) (sym c.point_of.ensures) in
     let of_host : (h : ℕ) → h < length pipelines → length (pipeline_at h pipelines).waiting ≡ length (waiting_parts h x) =
     λ h l. tells.waiting_are h (omega (arith, l, c.requires.pipelines)) in
-    ap (λ (q : Placed). q ∷ []) c.place_at.ensures.placed
+    ap (λ (place : Place). record { number = 0; place = place; text = c.args.text } ∷ []) c.place_at.ensures.place
     ∙ all_placed S x conn command (p ∷ []) _ [] refl
     (one_more S x conn command (p ∷ []) [] p [] pipelines c.args.counts.now host its within of_host none (none_so_far S x conn command (p ∷ []) [] (p ∷ []) refl refl))
 
@@ -50,4 +50,4 @@ returns-clause-counted c =
     let within : (h : ℕ) → host ≡ Some h → h < length pipelines = within_hosts host (length pipelines) c.place_at.ensures.host in
     let none : AreCounted pipelines c.args.counts.now [] = subst (λ z. AreCounted pipelines z []) (sym c.requires.counts) (none_counted pipelines (length pipelines) refl) in
     rw c.place_at.ensures.counts
-    (counted_more pipelines c.args.counts.now [] host c.place_at.result within (ap (λ (q : Placed). q.place) c.place_at.ensures.placed) none)
+    (counted_more pipelines c.args.counts.now [] host (record { number = 0; place = c.place_at.result; text = c.args.text }) within c.place_at.ensures.place none)

@@ -8,8 +8,8 @@ use Rattle.proxy_core.proofs.machine.Machine.turn_closed.Goals as goal
 pub close-done-requires : goal.close-done-requires
 close-done-requires c = record { closed = asked_closed c.args.self.now c.requires; awaited = λ h. asked_fault c.args.self.now h c.requires }
 
-pub settle-requires : goal.settle-requires
-settle-requires c =
+pub add_step-requires : goal.add_step-requires
+add_step-requires c =
     has_room c.close-done.result c.args.self.now c.close-done.new.self (Closed c.args.conn)
     (if_makes _ c.close-done.result c.args.self.now c.close-done.new.self (Closed c.args.conn)
     (λ d h. makes c.args.self.now c.close-done.new.self (Closed c.args.conn) d _ h.1 (λ pass is. closed-made c.args.self.now (with_step c.close-done.new.self pass (Closed c.args.conn) d) pass c.args.conn d.answer c.requires (h.0, is)))
@@ -17,12 +17,12 @@ settle-requires c =
 
 pub returns-clause-answered : goal.returns-clause-answered
 returns-clause-answered c =
-    if_made c.close-done.result c.settle.result c.args.self.now c.close-done.new.self c.settle.new.self c.args.pass (Closed c.args.conn)
+    if_made c.close-done.result c.add_step.result c.args.self.now c.close-done.new.self c.add_step.new.self c.args.pass (Closed c.args.conn)
     (if_makes _ c.close-done.result c.args.self.now c.close-done.new.self (Closed c.args.conn)
     (λ d h. makes c.args.self.now c.close-done.new.self (Closed c.args.conn) d _ h.1 (λ pass is. closed-made c.args.self.now (with_step c.close-done.new.self pass (Closed c.args.conn) d) pass c.args.conn d.answer c.requires (h.0, is)))
     c.close-done.ensures.done)
-    c.settle.ensures.answered
+    c.add_step.ensures.answered
 
 pub returns-clause-refused : goal.returns-clause-refused
 returns-clause-refused c =
-    if_left c.close-done.result c.settle.result c.args.self.now c.close-done.new.self c.settle.new.self (Closed c.args.conn) c.requires c.close-done.ensures.refused c.settle.ensures.refused
+    if_left c.close-done.result c.add_step.result c.args.self.now c.close-done.new.self c.add_step.new.self (Closed c.args.conn) c.requires c.close-done.ensures.refused c.add_step.ensures.refused

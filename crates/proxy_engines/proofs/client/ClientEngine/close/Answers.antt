@@ -8,7 +8,7 @@ returns-in-Ok-clause-moves g c =
     record {
       turns = c.make_turn.ensures.turns;
       goes = rw (c.in-Ok.ensures.answered.steps, ← c.self.view_is)
-          (true, closed_goes _ (g.T.Turns.pass c.args.turns.now) c.in-Ok.answer _ (rw (← c.self.view_is) at c.requires.stage) (rw (← c.self.view_is) at c.requires.nothing) (rw (← c.self.view_is) at c.requires.handed));
+          (true, closed_goes _ (g.T.Turns.facts c.args.turns.now).pass c.in-Ok.answer _ (rw (← c.self.view_is) at c.requires.stage) (rw (← c.self.view_is) at c.requires.nothing) (rw (← c.self.view_is) at c.requires.handed));
       unfailed = rw (← c.self.view_is) (refl, refl);
       due = tt;
     }
@@ -19,7 +19,7 @@ returns-in-Err-clause-moves g c =
       turns = c.make_turn.ensures.turns;
       goes = (false, same_goes _ _ _ c.in-Err.ensures.denied.rests);
       unfailed = tt;
-      due = is_due g.T.Turns.cause g.met.T.CoreTurns.laws.refusals_mean (g.T.Turns.setting c.args.turns.now) _ (g.T.Turns.seen c.make_turn.new.turns) c.in-Err.denied c.in-Err.ensures.denied.due (λ x none. none);
+      due = is_due g.T.Turns.cause g.met.T.CoreTurns.laws.refusals_mean (g.T.Turns.facts c.args.turns.now).setting _ (g.T.Turns.facts c.make_turn.new.turns).seen c.in-Err.denied c.in-Err.ensures.denied.due (λ x none. none);
     }
 
 pub returns-in-Ok-clause-ok : goal.returns-in-Ok-clause-ok

@@ -17,7 +17,7 @@ returns-clause-moves g c =
 pub returns-then-self-clause-moves : goal.returns-then-self-clause-moves
 returns-then-self-clause-moves g c =
     record {
-      turns = keeps_same _ _ _ _;
+      turns = keeps_same _;
       goes = same_goes _ _ _ refl;
       unfailed = (refl, refl);
       due = tt;

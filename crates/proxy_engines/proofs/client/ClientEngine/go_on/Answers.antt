@@ -19,7 +19,7 @@ returns-in-Open-clause-tells g c =
       write_failed = read_unwritten _ _ _ c.take_in.result c.take_in.ensures.takes.err;
       idle = let empty : c.args.self.now.outbox.pending ≡ [] = ap (λ (e : Client). e.outbox.pending) (sym c.self.view_is) ∙ empty_is c.self.inside.outbox.pending c.is_empty.result c.is_empty.ensures c.if-not-is_empty.false in
           let nothing = (c.in_ok-hand_if_due.ensures.hands.nothing c.if-branch.false).1 in
-          if_ok _ _ c.take_in.result (λ p still e. idle_open (g.T.Turns.cause (g.T.Turns.setting c.args.turns.now)) c.args.self.now c.take_in.new.self _ _ _ c.hand_if_due.ensures.moves.turns.begins c.take_in.ensures.moves.turns.begins empty nothing (still e))
+          if_ok _ _ c.take_in.result (λ p still e. idle_open (g.T.Turns.cause (g.T.Turns.facts c.args.turns.now).setting) c.args.self.now c.take_in.new.self _ _ _ c.hand_if_due.ensures.moves.turns.begins c.take_in.ensures.moves.turns.begins empty nothing (still e))
           (rw ((c.in_ok-hand_if_due.ensures.hands.nothing c.if-branch.false).0) at (rw c.hand_if_due.ensures.moves.turns.setting_is at c.take_in.ensures.takes.idle));
     }
 
@@ -32,7 +32,7 @@ returns-in_default-clause-tells g c =
       write_failed = if_err _ _ c.end.result (λ e turn. turn_unwritten _ e turn) c.end.ensures.ends.err;
       idle = let empty : c.args.self.now.outbox.pending ≡ [] = ap (λ (e : Client). e.outbox.pending) (sym c.self.view_is) ∙ empty_is c.self.inside.outbox.pending c.is_empty.result c.is_empty.ensures c.if-not-is_empty.false in
           let nothing = (c.in_ok-hand_if_due.ensures.hands.nothing c.if-branch.false).1 in
-          if_ok _ _ c.end.result (λ p still e. idle_finishing (g.T.Turns.cause (g.T.Turns.setting c.args.turns.now)) c.args.self.now c.end.new.self _ _ _ c.hand_if_due.ensures.moves.turns.begins c.end.ensures.moves.turns.begins empty nothing (still e)) c.end.ensures.ends.idle;
+          if_ok _ _ c.end.result (λ p still e. idle_finishing (g.T.Turns.cause (g.T.Turns.facts c.args.turns.now).setting) c.args.self.now c.end.new.self _ _ _ c.hand_if_due.ensures.moves.turns.begins c.end.ensures.moves.turns.begins empty nothing (still e)) c.end.ensures.ends.idle;
     }
 
 pub returns-then-not-is_empty-clause-moves : goal.returns-then-not-is_empty-clause-moves
@@ -59,7 +59,7 @@ returns-then-branch-clause-moves g c =
 pub returns-in-Open-clause-moves : goal.returns-in-Open-clause-moves
 returns-in-Open-clause-moves g c =
     record {
-      turns = keeps_then _ _ _ _ _ _ c.hand_if_due.ensures.moves.turns c.take_in.ensures.moves.turns;
+      turns = keeps_then _ _ _ c.hand_if_due.ensures.moves.turns c.take_in.ensures.moves.turns;
       goes = told_then _ _ _ _ _ _ (told_by_step c.take_in.result) (rw c.if-branch.false at c.in_ok-hand_if_due.ensures.moves.goes) c.take_in.ensures.moves.goes;
       unfailed = rw ((c.in_ok-hand_if_due.ensures.hands.nothing c.if-branch.false).0) at c.take_in.ensures.moves.unfailed;
       due = rw c.hand_if_due.ensures.moves.turns.setting_is at c.take_in.ensures.moves.due;
@@ -68,7 +68,7 @@ returns-in-Open-clause-moves g c =
 pub returns-in_default-clause-moves : goal.returns-in_default-clause-moves
 returns-in_default-clause-moves g c =
     record {
-      turns = keeps_then _ _ _ _ _ _ c.hand_if_due.ensures.moves.turns c.end.ensures.moves.turns;
+      turns = keeps_then _ _ _ c.hand_if_due.ensures.moves.turns c.end.ensures.moves.turns;
       goes = told_then _ _ _ _ _ _ (told_by_step c.end.result) (rw c.if-branch.false at c.in_ok-hand_if_due.ensures.moves.goes) c.end.ensures.moves.goes;
       unfailed = rw ((c.in_ok-hand_if_due.ensures.hands.nothing c.if-branch.false).0) at c.end.ensures.moves.unfailed;
       due = rw c.hand_if_due.ensures.moves.turns.setting_is at c.end.ensures.moves.due;
@@ -116,7 +116,7 @@ returns-then-branch-clause-cut g c = λ cut. absurd cc
 pub returns-in-AtEnd-clause-moves : goal.returns-in-AtEnd-clause-moves
 returns-in-AtEnd-clause-moves g c =
     record {
-      turns = keeps_then _ _ _ _ _ _ c.hand_if_due.ensures.moves.turns c.finish.ensures.moves.turns;
+      turns = keeps_then _ _ _ c.hand_if_due.ensures.moves.turns c.finish.ensures.moves.turns;
       goes = told_then _ _ _ _ _ _ (told_by_step c.finish.result) (rw c.if-branch.false at c.in_ok-hand_if_due.ensures.moves.goes) c.finish.ensures.moves.goes;
       unfailed = on_ok _ _ c.finish.result (λ p (_, new). rw (new, (c.in_ok-hand_if_due.ensures.hands.nothing c.if-branch.false).0) (refl, refl)) c.finish.ensures.ok;
       due = rw c.hand_if_due.ensures.moves.turns.setting_is at c.finish.ensures.moves.due;

@@ -13,7 +13,7 @@ returns-in-Ok-Bytes-clause-moves g c =
       turns = c.make_turn.ensures.turns;
       goes = let adds = rw c.in-Ok-Bytes.field-0-is at c.in-Ok-Bytes.ensures.answered in
           rw (c.put.ensures, c.saturating_add-self-inside.ensures, adds.steps, ← c.self.view_is)
-          (handed_goes _ (g.T.Turns.pass c.args.turns.now) _ c.in-Ok-Bytes.text (rw adds.steps at adds.few) (rw (← c.self.view_is) at c.requires.nothing) (rw (← c.self.view_is) at c.requires.live));
+          (handed_goes _ (g.T.Turns.facts c.args.turns.now).pass _ c.in-Ok-Bytes.text (rw adds.steps at adds.few) (rw (← c.self.view_is) at c.requires.nothing) (rw (← c.self.view_is) at c.requires.live));
       unfailed = rw (c.put.ensures, ← c.self.view_is) (refl, refl);
       due = tt;
     }
@@ -24,7 +24,7 @@ returns-in-Err-clause-moves g c =
       turns = c.make_turn.ensures.turns;
       goes = turn_told _ c.told_as.result (told_ok c.in-Err.denied false c.told_as.result c.told_as.ensures (λ b. b ≡ false) (λ x is soft. refl)) (same_goes _ _ _ c.in-Err.ensures.denied.rests);
       unfailed = any_ok _ c.told_as.result (refl, refl);
-      due = told_due c.in-Err.denied false c.told_as.result c.told_as.ensures (g.T.Turns.cause (g.T.Turns.setting c.args.turns.now)) (Event.Handed c.self.inside.conn) (g.T.Turns.seen c.make_turn.new.turns) c.in-Err.ensures.denied.due;
+      due = told_due c.in-Err.denied false c.told_as.result c.told_as.ensures (g.T.Turns.cause (g.T.Turns.facts c.args.turns.now).setting) (Event.Handed c.self.inside.conn) (g.T.Turns.facts c.make_turn.new.turns).seen c.in-Err.ensures.denied.due;
     }
 
 pub returns-in-Ok-Bytes-clause-hands : goal.returns-in-Ok-Bytes-clause-hands
@@ -39,8 +39,8 @@ pub returns-in-Err-clause-hands : goal.returns-in-Err-clause-hands
 returns-in-Err-clause-hands g c =
     record {
       stage = refl;
-      not_ready = let made = g.T.Turns.setting c.args.turns.now in
-          let seen = g.T.Turns.seen c.make_turn.new.turns in
+      not_ready = let made = (g.T.Turns.facts c.args.turns.now).setting in
+          let seen = (g.T.Turns.facts c.make_turn.new.turns).seen in
           let event = Event.Handed c.self.inside.conn in
           rw (← c.self.view_is)
           (told_ok c.in-Err.denied false c.told_as.result c.told_as.ensures _

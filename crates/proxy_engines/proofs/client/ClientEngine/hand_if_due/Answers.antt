@@ -8,7 +8,7 @@ use Rattle.proxy_engines.proofs.client.ClientEngine.hand_if_due.Goals as goal
 pub returns-then-self-clause-moves : goal.returns-then-self-clause-moves
 returns-then-self-clause-moves g c =
     record {
-      turns = keeps_same _ _ _ _;
+      turns = keeps_same _;
       goes = same_goes _ _ _ refl;
       unfailed = (refl, refl);
       due = tt;
@@ -21,8 +21,8 @@ pub returns-clause-hands : goal.returns-clause-hands
 returns-clause-hands g c =
     record {
       stage = c.hand.ensures.hands.stage;
-      nothing = let cause = g.T.Turns.cause (g.T.Turns.setting c.args.turns.now) in
-          IfOk-weaker c.hand.result _ _ (λ b missing no. let (same, later) = missing no in (same, hands_nothing cause c.args.self.now (g.T.Turns.seen c.args.turns.now) (g.T.Turns.seen c.hand.new.turns) c.hand.ensures.moves.turns.begins later)) c.hand.ensures.hands.not_ready;
+      nothing = let cause = g.T.Turns.cause (g.T.Turns.facts c.args.turns.now).setting in
+          IfOk-weaker c.hand.result _ _ (λ b missing no. let (same, later) = missing no in (same, hands_nothing cause c.args.self.now (g.T.Turns.facts c.args.turns.now).seen (g.T.Turns.facts c.hand.new.turns).seen c.hand.ensures.moves.turns.begins later)) c.hand.ensures.hands.not_ready;
       err = c.hand.ensures.hands.err;
     }
 

@@ -14,7 +14,7 @@ returns-then-is_last-clause-moves g c =
       turns = c.arrive.ensures.turns;
       goes = let now = c.in-Ok.ensures.answered in
           rw (c.take.ensures.after, c.saturating_add-self-inside.ensures, now.1.steps, ← c.self.view_is)
-          (arrived_last _ c.in-Some.request (g.T.Turns.pass c.args.turns.now) _ now.0 (rw (← c.self.view_is) at c.requires.stage) (sym c.take.ensures.value ∙ c.in-Some.is) (rw (← c.self.view_is) at c.requires.last) (rw now.1.steps at now.1.few)
+          (arrived_last _ c.in-Some.request (g.T.Turns.facts c.args.turns.now).pass _ now.0 (rw (← c.self.view_is) at c.requires.stage) (sym c.take.ensures.value ∙ c.in-Some.is) (rw (← c.self.view_is) at c.requires.last) (rw now.1.steps at now.1.few)
           (sym c.in-Ok.ensures.last ∙ c.if-is_last.true));
       unfailed = rw (← c.self.view_is) (refl, refl);
       due = tt;
@@ -26,7 +26,7 @@ returns-else-is_last-clause-moves g c =
       turns = c.arrive.ensures.turns;
       goes = let now = c.in-Ok.ensures.answered in
           rw (c.take.ensures.after, c.saturating_add-self-inside.ensures, now.1.steps, ← c.self.view_is)
-          (arrived_on _ c.in-Some.request (g.T.Turns.pass c.args.turns.now) _ now.0 (rw (← c.self.view_is) at c.requires.stage) (sym c.take.ensures.value ∙ c.in-Some.is) (rw (← c.self.view_is) at c.requires.last) (rw now.1.steps at now.1.few)
+          (arrived_on _ c.in-Some.request (g.T.Turns.facts c.args.turns.now).pass _ now.0 (rw (← c.self.view_is) at c.requires.stage) (sym c.take.ensures.value ∙ c.in-Some.is) (rw (← c.self.view_is) at c.requires.last) (rw now.1.steps at now.1.few)
           (sym c.in-Ok.ensures.last ∙ c.if-is_last.false));
       unfailed = rw (← c.self.view_is) (refl, refl);
       due = tt;
@@ -40,13 +40,13 @@ returns-in-Err-clause-moves g c =
           let unmoved : IfOk c.told_as.result (λ p. p ≡ Progress.Idle) = told_ok c.in-Err.denied Progress.Idle c.told_as.result c.told_as.ensures (λ p. p ≡ Progress.Idle) (λ x is soft. refl) in
           rw (c.replace.ensures.after, back, c.self.view_is) (unanswered_goes c.args.self.now _ _ _ c.in-Err.ensures.denied.rests unmoved);
       unfailed = any_ok _ c.told_as.result (rw (← c.self.view_is) (refl, refl));
-      due = told_due c.in-Err.denied Progress.Idle c.told_as.result c.told_as.ensures (g.T.Turns.cause (g.T.Turns.setting c.args.turns.now)) (Event.Arrived c.self.inside.conn c.in-Some.request) (g.T.Turns.seen c.arrive.new.turns) c.in-Err.ensures.denied.due;
+      due = told_due c.in-Err.denied Progress.Idle c.told_as.result c.told_as.ensures (g.T.Turns.cause (g.T.Turns.facts c.args.turns.now).setting) (Event.Arrived c.self.inside.conn c.in-Some.request) (g.T.Turns.facts c.arrive.new.turns).seen c.in-Err.ensures.denied.due;
     }
 
 pub returns-in_default-clause-moves : goal.returns-in_default-clause-moves
 returns-in_default-clause-moves g c =
     record {
-      turns = keeps_same _ _ _ _;
+      turns = keeps_same _;
       goes = search rules;
       unfailed = rw (← c.self.view_is) (refl, refl);
       due = tt;
@@ -58,8 +58,8 @@ returns-in-Err-clause-offers g c =
       live = rw (ap (λ (e : Client). e.stage) c.self.view_is ∙ c.requires.stage) tt;
       ends = rw (← c.self.view_is) (refl, refl);
       ok = let back = ap Some c.in-Err.ensures.back ∙ sym c.in-Some.is ∙ c.take.ensures.value in
-          let made = g.T.Turns.setting c.args.turns.now in
-          let seen = g.T.Turns.seen c.arrive.new.turns in
+          let made = (g.T.Turns.facts c.args.turns.now).setting in
+          let seen = (g.T.Turns.facts c.arrive.new.turns).seen in
           let event = Event.Arrived c.self.inside.conn c.in-Some.request in
           rw (c.replace.ensures.after, ← c.self.view_is)
           (told_ok c.in-Err.denied Progress.Idle c.told_as.result c.told_as.ensures _

@@ -8,7 +8,7 @@ use Rattle.proxy_engines.proofs.client.ClientEngine.open.Goals as goal
 pub returns-in-Ok-open-clause-carries : goal.returns-in-Ok-open-clause-carries
 returns-in-Ok-open-clause-carries g c =
     rw c.in-Ok-open.ensures.answered
-    (opened_carries c.in-Ok-open.conn (g.T.Turns.pass c.args.turns.now) c.in-Ok.inbox _ None _ [] c.in-Ok-open.ensures.new c.new-in-Ok-open.ensures.pending c.in-Ok.ensures.most (behind_none c.in-Ok.inbox [] [] c.in-Ok.ensures.holds))
+    (opened_carries c.in-Ok-open.conn (g.T.Turns.facts c.args.turns.now).pass c.in-Ok.inbox _ None _ [] c.in-Ok-open.ensures.new c.new-in-Ok-open.ensures.pending c.in-Ok.ensures.most (behind_none c.in-Ok.inbox [] [] c.in-Ok.ensures.holds))
 
 pub returns-in-Err-open-clause-turns : goal.returns-in-Err-open-clause-turns
 returns-in-Err-open-clause-turns g c = c.open.ensures.turns
@@ -17,7 +17,7 @@ pub returns-in-Ok-open-clause-turns : goal.returns-in-Ok-open-clause-turns
 returns-in-Ok-open-clause-turns g c = c.open.ensures.turns
 
 pub returns-in-Err-clause-turns : goal.returns-in-Err-clause-turns
-returns-in-Err-clause-turns g c = keeps_same _ _ _ _
+returns-in-Err-clause-turns g c = keeps_same _
 
 pub returns-in-Err-open-clause-opened : goal.returns-in-Err-open-clause-opened
 returns-in-Err-open-clause-opened g c = tt
@@ -48,7 +48,7 @@ returns-in-Err-clause-due g c = tt
 
 pub returns-in-Err-open-clause-due : goal.returns-in-Err-open-clause-due
 returns-in-Err-open-clause-due g c =
-    is_due g.T.Turns.cause g.met.T.CoreTurns.laws.refusals_mean (g.T.Turns.setting c.args.turns.now) _ (g.T.Turns.seen c.open.new.turns) c.in-Err-open.denied c.in-Err-open.ensures.denied.due (λ x none. none)
+    is_due g.T.Turns.cause g.met.T.CoreTurns.laws.refusals_mean (g.T.Turns.facts c.args.turns.now).setting _ (g.T.Turns.facts c.open.new.turns).seen c.in-Err-open.denied c.in-Err-open.ensures.denied.due (λ x none. none)
 
 pub returns-in-Ok-open-clause-opened : goal.returns-in-Ok-open-clause-opened
 returns-in-Ok-open-clause-opened g c =
@@ -59,6 +59,7 @@ returns-in-Ok-open-clause-opened g c =
       told_is = search rules;
       held_is = search rules;
       taken_is = search rules;
+      passed_is = search rules;
       counts_are = (search rules, search rules);
       stage = refl;
       reads = refl;

@@ -27,7 +27,7 @@ returns-in-End-clause-moves g c =
 pub returns-in-Moved-clause-moves : goal.returns-in-Moved-clause-moves
 returns-in-Moved-clause-moves g c =
     record {
-      turns = keeps_same _ _ _ _;
+      turns = keeps_same _;
       goes = let all = rw (← c.self.view_is) at c.requires.all in
           rw (← c.self.view_is) (read_goes _ c.read_once.new.self _ true (rw c.in-Moved.is at c.read_once.ensures.reads.is_told) (rw (← c.self.view_is) at c.requires.stage) (rw (← c.self.view_is) at c.requires.reads) all.none_refused all.none_fresh c.read_once.ensures.reads.bytes c.read_once.ensures.reads.values);
       unfailed = rw (← c.self.view_is) (ap (λ (n : Counts). n.failed) (c.read_once.ensures.reads.moved _ c.in-Moved.is).1, refl);
@@ -37,7 +37,7 @@ returns-in-Moved-clause-moves g c =
 pub returns-in-Idle-clause-moves : goal.returns-in-Idle-clause-moves
 returns-in-Idle-clause-moves g c =
     record {
-      turns = keeps_same _ _ _ _;
+      turns = keeps_same _;
       goes = let all = rw (← c.self.view_is) at c.requires.all in
           rw (← c.self.view_is) (read_goes _ c.read_once.new.self _ false (rw c.in-Idle.is at c.read_once.ensures.reads.is_told) (rw (← c.self.view_is) at c.requires.stage) (rw (← c.self.view_is) at c.requires.reads) all.none_refused all.none_fresh c.read_once.ensures.reads.bytes c.read_once.ensures.reads.values);
       unfailed = rw (← c.self.view_is) ((c.read_once.ensures.reads.idle c.in-Idle.is).1.failed, refl);

@@ -10,7 +10,7 @@ use Rattle.proxy_engines.proofs.client.ClientEngine.step.Goals as goal
 pub returns-in-Closed-true-clause-moves : goal.returns-in-Closed-true-clause-moves
 returns-in-Closed-true-clause-moves g c =
     record {
-      turns = keeps_same _ _ _ _;
+      turns = keeps_same _;
       goes = (false, same_goes _ _ _ refl);
       unfailed = (refl, refl);
       due = tt;
@@ -19,7 +19,7 @@ returns-in-Closed-true-clause-moves g c =
 pub returns-in-Closed-false-clause-moves : goal.returns-in-Closed-false-clause-moves
 returns-in-Closed-false-clause-moves g c =
     record {
-      turns = keeps_same _ _ _ _;
+      turns = keeps_same _;
       goes = (false, same_goes _ _ _ refl);
       unfailed = (refl, refl);
       due = tt;

@@ -22,7 +22,7 @@ returns-then-not-branch-clause-moves g c =
 pub returns-in_err-fetch_if_none-clause-moves : goal.returns-in_err-fetch_if_none-clause-moves
 returns-in_err-fetch_if_none-clause-moves g c =
     record {
-      turns = keeps_same _ _ _ _;
+      turns = keeps_same _;
       goes = step-err _ c.from_residual.result c.from_residual.ensures.0 (false, c.fetch_if_none.ensures.goes _);
       unfailed = IfOk-from_err c.from_residual.result _ c.from_residual.ensures.0;
       due = let (_, result_is, error_is) = err_from_is_err_and c.from_residual.result c.from_residual.ensures.1 in rw (result_is, error_is, c.in_err-fetch_if_none.ensures.looks.err) tt;
@@ -47,7 +47,7 @@ returns-clause-takes g c =
       err = if_err _ _ c.offer.result (λ e (_, turn). inr (inr turn)) c.offer.ensures.offers.err;
       idle = if_ok _ _ c.offer.result (λ p told idle.
           let held = idle_for (StaysHeld _ _ _ _) p told idle in
-          rw held.same (inl (held.request, held.waits, held_now (g.T.Turns.cause (g.T.Turns.setting c.args.turns.now) Refusal.Crowded) _ _ _ c.offer.ensures.moves.turns.begins held.crowded))) c.offer.ensures.offers.ok;
+          rw held.same (inl (held.request, held.waits, held_now (g.T.Turns.cause (g.T.Turns.facts c.args.turns.now).setting Refusal.Crowded) _ _ _ c.offer.ensures.moves.turns.begins held.crowded))) c.offer.ensures.offers.ok;
     }
 
 pub returns-then-not-branch-clause-takes : goal.returns-then-not-branch-clause-takes

@@ -12,7 +12,7 @@ use Rattle.proxy_engines.proofs.client.ClientEngine.write.Goals as goal
 pub returns-in-Moved-clause-moves : goal.returns-in-Moved-clause-moves
 returns-in-Moved-clause-moves g c =
     record {
-      turns = keeps_same _ _ _ _;
+      turns = keeps_same _;
       goes = let (gave, sends, moved) = c.in-Moved.ensures.writes.bytes in
           rw (← c.self.view_is) (wrote_goes _ c.write_once.new.self gave _ true (rw (← c.self.view_is) at c.requires.live) sends moved);
       unfailed = rw (← c.self.view_is) (refl, ap (λ (n : Counts). n.failed) (c.write_once.ensures.writes.counts.moved _ c.in-Moved.is));
@@ -22,7 +22,7 @@ returns-in-Moved-clause-moves g c =
 pub returns-in-Idle-clause-moves : goal.returns-in-Idle-clause-moves
 returns-in-Idle-clause-moves g c =
     record {
-      turns = keeps_same _ _ _ _;
+      turns = keeps_same _;
       goes = let (gave, sends, moved) = rw c.in-Idle.is at c.write_once.ensures.writes.bytes in
           rw (← c.self.view_is) (wrote_goes _ c.write_once.new.self gave _ false (rw (← c.self.view_is) at c.requires.live) sends moved);
       unfailed = rw (← c.self.view_is) (refl, (c.write_once.ensures.writes.counts.idle c.in-Idle.is).failed);

@@ -6,7 +6,7 @@ use Rattle.proxy_engines.proofs.ClientMoves.{same_goes, goes_told}
 use Rattle.proxy_engines.proofs.client_work.ClientWorkWork.run.Goals as goal
 
 pub loop-init : goal.loop-init
-loop-init g c = ((false, same_goes c.args.self.now.engine _ _ refl), keeps_same _ _ _ _, (refl, refl))
+loop-init g c = ((false, same_goes c.args.self.now.engine _ _ refl), keeps_same _, (refl, refl))
 
 pub returns-in_err-step-clause-goes : goal.returns-in_err-step-clause-goes
 returns-in_err-step-clause-goes g c = let (goes, _, _) = c.loop.invariant in goes_told _ _ _ _ _ _ _ goes c.step.ensures.moves.goes
@@ -18,7 +18,7 @@ pub loop-preserved-in-Idle : goal.loop-preserved-in-Idle
 loop-preserved-in-Idle g c =
     let (goes, turns, faults) = c.loop.invariant in (
       goes_told _ _ _ _ _ _ _ goes c.step.ensures.moves.goes,
-      keeps_then _ _ _ _ _ _ turns c.step.ensures.moves.turns,
+      keeps_then _ _ _ turns c.step.ensures.moves.turns,
       (c.in_ok-step.ensures.moves.unfailed.0 ∙ faults.0, c.in_ok-step.ensures.moves.unfailed.1 ∙ faults.1),
     )
 
@@ -26,15 +26,15 @@ pub loop-preserved : goal.loop-preserved
 loop-preserved g c =
     let (goes, turns, faults) = c.loop.invariant in (
       goes_told _ _ _ _ _ _ _ goes c.step.ensures.moves.goes,
-      keeps_then _ _ _ _ _ _ turns c.step.ensures.moves.turns,
+      keeps_then _ _ _ turns c.step.ensures.moves.turns,
       (c.in_ok-step.ensures.moves.unfailed.0 ∙ faults.0, c.in_ok-step.ensures.moves.unfailed.1 ∙ faults.1),
     )
 
 pub returns-in_err-step-clause-turns : goal.returns-in_err-step-clause-turns
-returns-in_err-step-clause-turns g c = let (_, turns, _) = c.loop.invariant in keeps_then _ _ _ _ _ _ turns c.step.ensures.moves.turns
+returns-in_err-step-clause-turns g c = let (_, turns, _) = c.loop.invariant in keeps_then _ _ _ turns c.step.ensures.moves.turns
 
 pub returns-in-Ended-clause-turns : goal.returns-in-Ended-clause-turns
-returns-in-Ended-clause-turns g c = let (_, turns, _) = c.loop.invariant in keeps_then _ _ _ _ _ _ turns c.step.ensures.moves.turns
+returns-in-Ended-clause-turns g c = let (_, turns, _) = c.loop.invariant in keeps_then _ _ _ turns c.step.ensures.moves.turns
 
 pub returns-in-Ended-clause-failed : goal.returns-in-Ended-clause-failed
 returns-in-Ended-clause-failed g c = tt

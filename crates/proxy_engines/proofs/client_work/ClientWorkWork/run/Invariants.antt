@@ -6,7 +6,7 @@ use Rattle.proxy_engines.proofs.client_work.ClientWorkWork.run.Given as goal
 
 abbrev pub invariant-loop : goal.invariant-loop
 invariant-loop g l =
-    AsTold (Goes l.fn.self.engine l.self.engine (own_history g.T.Turns.pass g.T.Turns.seen l.fn.self.turns)
-    (own_history g.T.Turns.pass g.T.Turns.seen l.self.turns)) None
-    × KeepsTurns g.T.Turns.pass g.T.Turns.setting g.T.Turns.seen l.fn.self.turns l.self.turns
+    AsTold (Goes l.fn.self.engine l.self.engine (own_history (g.T.Turns.facts l.fn.self.turns))
+    (own_history (g.T.Turns.facts l.self.turns))) None
+    × KeepsTurns (g.T.Turns.facts l.fn.self.turns) (g.T.Turns.facts l.self.turns)
     × HasNoFault l.fn.self.engine l.self.engine

@@ -47,7 +47,7 @@ returns-clause-moves g c =
               let same = c.in_ok-taken.ensures.takes.same w.if-taken.false in
               let empty : c.args.self.now.outbox.pending ≡ [] =
               ap (λ (l : HostOutboxState). l.pending) (sym same) ∙ ap (λ (h : HostState). h.outbox.pending) (sym c.self.view_is) ∙ empty_is c.self.inside.outbox.pending c.is_empty.result c.is_empty.ensures c.if-not-is_empty.false in
-              rw (w.result-is, c.requires.none, c.take_one.ensures.takes.link) (λ e. (empty, (g.T.Turns.seen c.take_one.new.turns, c.take_one.ensures.moves.turns.begins, ([], sym (append-nil (g.T.Turns.seen c.take_one.new.turns))), c.in_ok-taken.ensures.takes.nothing_waits w.if-taken.false empty)))
+              rw (w.result-is, c.requires.none, c.take_one.ensures.takes.link) (λ e. (empty, ((g.T.Turns.facts c.take_one.new.turns).seen, c.take_one.ensures.moves.turns.begins, ([], sym (append-nil (g.T.Turns.facts c.take_one.new.turns).seen)), c.in_ok-taken.ensures.takes.nothing_waits w.if-taken.false empty)))
         ];
         needs_link = let empty : c.take_one.new.self.outbox.pending ≡ [] = ap (λ (h : HostState). h.outbox.pending) (sym c.self.view_is) ∙ empty_is c.self.inside.outbox.pending c.is_empty.result c.is_empty.ensures c.if-not-is_empty.false in
             elim c.if-taken.branch [
@@ -99,7 +99,7 @@ returns-then-not-is_empty-clause-moves g c =
 pub returns-then-is_late-clause-moves : goal.returns-then-is_late-clause-moves
 returns-then-is_late-clause-moves g c =
     record {
-      turns = keeps_then _ _ _ _ _ _ c.take_one.ensures.moves.turns c.tell_fault.ensures.turns;
+      turns = keeps_then _ _ _ c.take_one.ensures.moves.turns c.tell_fault.ensures.turns;
       works = let went = some_told _ (told_by_turn c.take_one.result) c.take_one.ensures.moves.goes in
           let late : IsLate c.take_one.new.self.outbox c.args.moment = rw (← c.self.view_is) (c.is_late.ensures.0 c.if-is_late.true) in
           works_told _ _ c.take_one.new.self c.tell_fault.new.self Kind.Late None _ _ _ c.args.moment went.0 c.tell_fault.result went.1

@@ -13,7 +13,7 @@ use Rattle.proxy_engines.proofs.host.HostEngine.send_on.Goals as goal
 pub returns-in_default : goal.returns-in_default
 returns-in_default g c =
     record {
-      turns = keeps_same _ _ _ _;
+      turns = keeps_same _;
       works = rw (← c.self.view_is, c.in_default.is) (works_on _ _ _ _ _ c.args.moment false _ (stays_on _ _ _ _ c.args.moment refl) refl (rw (← c.self.view_is) at c.requires.no_fault));
       unread = rw (← c.self.view_is, c.in_default.is) tt;
       idle = λ _. rw (← c.self.view_is, c.in_default.is) tt;
@@ -59,7 +59,7 @@ returns-in-Moved g c =
 pub returns-in-Fault : goal.returns-in-Fault
 returns-in-Fault g c =
     record {
-      turns = keeps_then _ _ _ _ _ _ c.send.ensures.moves.turns c.tell_fault.ensures.turns;
+      turns = keeps_then _ _ _ c.send.ensures.moves.turns c.tell_fault.ensures.turns;
       works = let went = some_told _ (told_by_moves c.send.result) c.send.ensures.moves.goes in
           let device = rw c.in-Fault.is at c.in_ok-send.ensures.sends.fault in
           rw (← c.self.view_is, c.in-Some.is)
@@ -70,5 +70,5 @@ returns-in-Fault g c =
       idle = told_moved _ _ _ _ _ _ _ _ c.tell_fault.result c.tell_fault.ensures.tells;
       due = let device = rw c.in-Fault.is at c.in_ok-send.ensures.sends.fault in
           let cause = fault_of_device c.in-Some.link c.in-Some.link c.send.new.self ⊥ ⊥ refl refl (Outcome.Fault c.in-Fault.kind c.in-Fault.error) device in
-          due_cut _ _ c.tell_fault.result (cause_due (g.T.Turns.cause (g.T.Turns.setting c.args.turns.now)) (g.T.Turns.seen c.tell_fault.new.turns) c.tell_fault.new.self.outbox c.in-Fault.kind c.in-Fault.error c.in-Some.link c.send.new.self _ _ cause) (rw c.send.ensures.moves.turns.setting_is at c.tell_fault.ensures.due);
+          due_cut _ _ c.tell_fault.result (cause_due (g.T.Turns.cause (g.T.Turns.facts c.args.turns.now).setting) (g.T.Turns.facts c.tell_fault.new.turns).seen c.tell_fault.new.self.outbox c.in-Fault.kind c.in-Fault.error c.in-Some.link c.send.new.self _ _ cause) (rw c.send.ensures.moves.turns.setting_is at c.tell_fault.ensures.due);
     }

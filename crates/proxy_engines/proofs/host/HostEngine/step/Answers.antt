@@ -49,9 +49,9 @@ module _ (A : Type 0) where
 pub returns-clause-makes : goal.returns-clause-makes
 returns-clause-makes g c =
     record {
-      turns = keeps_then _ _ _ _ _ _ c.record_fault.ensures.records.turns c.go_on-2.ensures.moves.turns;
+      turns = keeps_then _ _ _ c.record_fault.ensures.records.turns c.go_on-2.ensures.moves.turns;
       steps = let was = ap (λ (h : HostState). h.fault) (sym c.self.view_is) ∙ c.in-Some.is in
-          inl (steps_after (g.T.Turns.cause (g.T.Turns.setting c.args.turns.now) Refusal.Unasked) (g.T.Turns.seen c.args.turns.now) (g.T.Turns.seen c.record_fault.new.turns) (g.T.Turns.seen c.go_on-2.new.turns) c.args.moment c.record_fault.ensures.records.turns.begins
+          inl (steps_after (g.T.Turns.cause (g.T.Turns.facts c.args.turns.now).setting Refusal.Unasked) (g.T.Turns.facts c.args.turns.now).seen (g.T.Turns.facts c.record_fault.new.turns).seen (g.T.Turns.facts c.go_on-2.new.turns).seen c.args.moment c.record_fault.ensures.records.turns.begins
           c.args.self.now c.record_fault.new.self c.go_on-2.new.self c.in-Some.kind _ _ _ c.go_on-2.result _ was c.in_ok-record_fault.ensures.records.records (rw c.record_fault.ensures.records.turns.setting_is at c.go_on-2.ensures.moves.works) c.after_fault.ensures);
       due = rw c.after_fault.ensures (after_err _ c.go_on-2.result (rw c.record_fault.ensures.records.turns.setting_is at c.go_on-2.ensures.moves.due));
     }

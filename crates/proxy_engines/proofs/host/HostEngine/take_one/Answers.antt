@@ -12,7 +12,7 @@ returns-then-is_empty-clause-moves g c =
 pub returns-else-is_empty-clause-moves : goal.returns-else-is_empty-clause-moves
 returns-else-is_empty-clause-moves g c =
     record {
-      turns = keeps_same _ _ _ _;
+      turns = keeps_same _;
       goes = stays_on _ _ _ _ c.args.moment refl;
       plain = tt;
     }

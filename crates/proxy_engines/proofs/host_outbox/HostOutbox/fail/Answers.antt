@@ -10,7 +10,7 @@ returns-in-Ok g c =
       records = record {
         turns = c.make_turn.ensures.turns;
         fails = rw (c.saturating_add-self-inside.ensures, c.new.ensures, c.clear.ensures.items, c.in-Ok.ensures.answered.steps, ← c.self.view_is)
-            (λ k. fault_records _ k (g.T.Turns.pass c.args.turns.now) _ c.args.kind c.args.moment c.in-Ok.answer c.if-self.false (rw c.in-Ok.ensures.answered.steps at c.in-Ok.ensures.answered.few));
+            (λ k. fault_records _ k (g.T.Turns.facts c.args.turns.now).pass _ c.args.kind c.args.moment c.in-Ok.answer c.if-self.false (rw c.in-Ok.ensures.answered.steps at c.in-Ok.ensures.answered.few));
         same = tt;
         err = tt;
         due = tt;
@@ -25,7 +25,7 @@ returns-in-Err g c =
         fails = tt;
         same = (refl, c.in-Err.ensures.denied.rests);
         err = (_, refl);
-        due = inl (is_due g.T.Turns.cause g.met.T.CoreTurns.laws.refusals_mean (g.T.Turns.setting c.args.turns.now) _ (g.T.Turns.seen c.make_turn.new.turns) c.in-Err.denied c.in-Err.ensures.denied.due (λ x none. none));
+        due = inl (is_due g.T.Turns.cause g.met.T.CoreTurns.laws.refusals_mean (g.T.Turns.facts c.args.turns.now).setting _ (g.T.Turns.facts c.make_turn.new.turns).seen c.in-Err.denied c.in-Err.ensures.denied.due (λ x none. none));
       };
     }
 

@@ -11,7 +11,7 @@ use Rattle.proxy_engines.proofs.host_outbox.HostOutbox.take.Goals as goal
 pub returns-then-is_err-clause-moves : goal.returns-then-is_err-clause-moves
 returns-then-is_err-clause-moves g c = λ k.
     record {
-      turns = keeps_same _ _ _ _;
+      turns = keeps_same _;
       goes = (false, rw (c.reserve.ensures.items, ← c.self.view_is) (stays_on _ k _ _ c.args.moment refl));
       plain = (tt, inl tt);
     }
@@ -23,7 +23,7 @@ returns-then-epoch-self-clause-moves g c = λ k.
       goes = let adds = rw c.in-Ok-Sent.field-0-is at c.in-Ok-Sent.ensures.answered in (
         true,
         rw (c.push_back_reserved.ensures.items, c.reserve.ensures.items, adds.steps, ← c.self.view_is)
-            (taken_astray _ (g.T.Turns.pass c.args.turns.now) _ c.in-Ok-Sent.epoch _ c.args.moment c.in-Ok-Sent.text (rw (← c.self.view_is) at c.requires.nothing) c.if-self.false k c.if-epoch-self.true),
+            (taken_astray _ (g.T.Turns.facts c.args.turns.now).pass _ c.in-Ok-Sent.epoch _ c.args.moment c.in-Ok-Sent.text (rw (← c.self.view_is) at c.requires.nothing) c.if-self.false k c.if-epoch-self.true),
       );
       plain = (tt, inr (refl, refl));
     }
@@ -34,7 +34,7 @@ returns-else-epoch-self-clause-moves g c = λ k.
       turns = c.make_turn.ensures.turns;
       goes = let adds = rw c.in-Ok-Sent.field-0-is at c.in-Ok-Sent.ensures.answered in
           rw (c.push_back_reserved.ensures.items, c.reserve.ensures.items, adds.steps, ← c.self.view_is)
-          (taken_on _ (g.T.Turns.pass c.args.turns.now) _ c.in-Ok-Sent.epoch _ c.args.moment c.in-Ok-Sent.text (rw (← c.self.view_is) at c.requires.nothing) c.if-self.false k c.if-epoch-self.false);
+          (taken_on _ (g.T.Turns.facts c.args.turns.now).pass _ c.in-Ok-Sent.epoch _ c.args.moment c.in-Ok-Sent.text (rw (← c.self.view_is) at c.requires.nothing) c.if-self.false k c.if-epoch-self.false);
       plain = tt;
     }
 
@@ -44,13 +44,13 @@ returns-in-Err-clause-moves g c = λ k.
       turns = c.make_turn.ensures.turns;
       goes = turn_told _ c.told_as.result (told_ok c.in-Err.denied false c.told_as.result c.told_as.ensures (λ b. b ≡ false) (λ x is soft. refl)) (rw (c.reserve.ensures.items, ← c.self.view_is) (stays_on _ k _ _ c.args.moment c.in-Err.ensures.denied.rests));
       plain = if_err _ _ c.told_as.result (λ e (plain, due). (plain, inl due))
-          (told_plain c.in-Err.denied false c.told_as.result c.told_as.ensures (g.T.Turns.cause (g.T.Turns.setting c.args.turns.now)) (Event.Taken c.self.inside.host) (g.T.Turns.seen c.make_turn.new.turns) c.in-Err.ensures.denied.due);
+          (told_plain c.in-Err.denied false c.told_as.result c.told_as.ensures (g.T.Turns.cause (g.T.Turns.facts c.args.turns.now).setting) (Event.Taken c.self.inside.host) (g.T.Turns.facts c.make_turn.new.turns).seen c.in-Err.ensures.denied.due);
     }
 
 pub returns-then-self-clause-moves : goal.returns-then-self-clause-moves
 returns-then-self-clause-moves g c = λ k.
     record {
-      turns = keeps_same _ _ _ _;
+      turns = keeps_same _;
       goes = (false, stays_on _ k _ _ c.args.moment refl);
       plain = (tt, inr (ap (λ (l : HostOutboxState). l.is_astray) (sym c.self.view_is) ∙ c.if-self.true, refl));
     }
@@ -84,8 +84,8 @@ returns-in-Err-clause-none g c = told_ok c.in-Err.denied false c.told_as.result 
 
 pub returns-in-Err-clause-nothing_waits : goal.returns-in-Err-clause-nothing_waits
 returns-in-Err-clause-nothing_waits g c =
-    let made = g.T.Turns.setting c.args.turns.now in
-    let seen = g.T.Turns.seen c.make_turn.new.turns in
+    let made = (g.T.Turns.facts c.args.turns.now).setting in
+    let seen = (g.T.Turns.facts c.make_turn.new.turns).seen in
     let event = Event.Taken c.self.inside.host in
     rw (← c.self.view_is)
     (told_ok c.in-Err.denied false c.told_as.result c.told_as.ensures _

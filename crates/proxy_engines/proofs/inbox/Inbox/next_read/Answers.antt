@@ -17,8 +17,8 @@ returns-in-Ok-Some-clause-next g c =
     record {
       some = let values : c.self-2.inside.values ≡ c.feed.new.self.values = ap (λ (z : InboxState). z.values) c.self-2.view_is in
           let fresh = ap (λ (z : InboxState). z.fresh) c.self-2.view_is ∙ c.in_ok-feed.ensures.fresh in
-          let next = rw c.in-Ok-Some.field-0-is at c.in-Ok-Some.ensures.value in
-          λ b rs h. holds-value c.feed.new.self _ _ b rs c.in_ok-feed.ensures.fresh fresh c.in_ok-feed.ensures.whole c.in-Ok-Some.ensures.untold (rw values at next) (c.in_ok-feed.ensures.holds b rs h);
+          let gives = rw c.in-Ok-Some.field-0-is at c.in-Ok-Some.ensures.given in
+          λ b rs h. holds-value c.feed.new.self _ _ b rs c.in_ok-feed.ensures.fresh fresh c.in_ok-feed.ensures.whole c.in-Ok-Some.ensures.untold (rw values at gives.stands) (c.in_ok-feed.ensures.holds b rs h);
       none = tt;
       all = tt;
       whole = search rules;
@@ -30,7 +30,7 @@ returns-in-Ok-None-clause-next g c =
     record {
       some = tt;
       none = let values : c.self-2.inside.values ≡ c.feed.new.self.values = ap (λ (z : InboxState). z.values) c.self-2.view_is in
-          let same = rw c.in-Ok-None.field-0-is at c.in-Ok-None.ensures.none_same in
+          let same = (rw c.in-Ok-None.field-0-is at c.in-Ok-None.ensures.none).same in
           λ b rs h. holds-unmoved c.feed.new.self _ b rs (ap (λ (z : InboxState). z.fresh) c.self-2.view_is) (rw values at same.refusal) (rw values at same.stands) (c.in_ok-feed.ensures.holds b rs h);
       all = search rules;
       whole = search rules;
@@ -43,8 +43,8 @@ returns-else-is_memory-clause-next g c =
       some = let values : c.self-2.inside.values ≡ c.feed.new.self.values = ap (λ (z : InboxState). z.values) c.self-2.view_is in
           let fresh = ap (λ (z : InboxState). z.fresh) c.self-2.view_is ∙ c.in_ok-feed.ensures.fresh in
           let other : c.in-Err.error ≢ RespError.NoMemory = λ e. let yes = sym (c.is_memory.ensures.1 e) ∙ c.if-is_memory.false in absurd cc in
-          let refused = rw values at (c.in-Err.ensures.refused other) in
-          λ b rs h. holds-refused c.feed.new.self _ c.in-Err.error b rs c.in_ok-feed.ensures.fresh fresh c.in_ok-feed.ensures.whole (c.in-Err.ensures.told other) (λ x ts s. (refused x ts s).0) (c.in_ok-feed.ensures.holds b rs h);
+          let tells = c.in-Err.ensures.refused other in
+          λ b rs h. holds-refused c.feed.new.self _ c.in-Err.error b rs c.in_ok-feed.ensures.fresh fresh c.in_ok-feed.ensures.whole tells.told (rw values at tells.stands) (c.in_ok-feed.ensures.holds b rs h);
       none = tt;
       all = tt;
       whole = λ never. absurd (never refl);

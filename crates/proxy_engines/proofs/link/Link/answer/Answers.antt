@@ -22,7 +22,7 @@ returns-in-Ok-clause-moves g c =
       goes = let now = c.in-Ok.ensures.answered in
           let steps = rw (c.host.ensures, c.epoch.ensures) at now.1.steps in
           rw (c.forget_moment.ensures, c.take.ensures.after, steps, ← c.self.view_is)
-          (answered_on c.args.outbox.now _ c.in-Some.value (g.T.Turns.pass c.args.turns.now) _ now.0 c.args.moment (sym c.take.ensures.value ∙ c.in-Some.is));
+          (answered_on c.args.outbox.now _ c.in-Some.value (g.T.Turns.facts c.args.turns.now).pass _ now.0 c.args.moment (sym c.take.ensures.value ∙ c.in-Some.is));
       plain = tt;
     }
 
@@ -36,13 +36,13 @@ returns-in-Err-clause-moves g c =
       plain = let l = c.args.outbox.now in
           let due = rw (c.host.ensures, c.epoch.ensures) at c.in-Err.ensures.denied.due in
           if_err _ _ c.told_as.result (λ e (plain, due). (plain, inl due))
-          (told_plain c.in-Err.denied garbled c.told_as.result c.told_as.ensures (g.T.Turns.cause (g.T.Turns.setting c.args.turns.now)) (Event.Answered l.host l.epoch c.in-Some.value c.args.moment) (g.T.Turns.seen c.give.new.turns) due);
+          (told_plain c.in-Err.denied garbled c.told_as.result c.told_as.ensures (g.T.Turns.cause (g.T.Turns.facts c.args.turns.now).setting) (Event.Answered l.host l.epoch c.in-Some.value c.args.moment) (g.T.Turns.facts c.give.new.turns).seen due);
     }
 
 pub returns-in_default-clause-moves : goal.returns-in_default-clause-moves
 returns-in_default-clause-moves g c =
     record {
-      turns = keeps_same _ _ _ _;
+      turns = keeps_same _;
       goes = search rules;
       plain = tt;
     }
@@ -52,8 +52,8 @@ returns-in-Err-clause-answers g c =
     record {
       keeps = (ap (λ (k : LinkState). k.inbox) c.self.view_is, ap (λ (k : LinkState). k.counts) c.self.view_is);
       moved = told_ok c.in-Err.denied garbled c.told_as.result c.told_as.ensures _ (λ x is soft idle. absurd cc);
-      fault = let made = g.T.Turns.setting c.args.turns.now in
-          let seen = g.T.Turns.seen c.give.new.turns in
+      fault = let made = (g.T.Turns.facts c.args.turns.now).setting in
+          let seen = (g.T.Turns.facts c.give.new.turns).seen in
           let l = c.args.outbox.now in
           let v = c.in-Some.value in
           let event = Event.Answered l.host l.epoch v c.args.moment in

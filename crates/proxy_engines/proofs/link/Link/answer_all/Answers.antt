@@ -8,7 +8,7 @@ use Rattle.proxy_engines.proofs.MoveLemmas.{moves-err, as_fault, any_err}
 use Rattle.proxy_engines.proofs.link.Link.answer_all.Goals as goal
 
 pub loop-init : goal.loop-init
-loop-init g c = (stays_on _ _ _ _ _ refl, c.requires.whole, (refl, refl, refl), refl, refl, keeps_same _ _ _ _)
+loop-init g c = (stays_on _ _ _ _ _ refl, c.requires.whole, (refl, refl, refl), refl, refl, keeps_same _)
 
 pub loop-preserved : goal.loop-preserved
 loop-preserved g c =
@@ -18,13 +18,13 @@ loop-preserved g c =
       (c.answer_next.ensures.answers.keeps.0.0 ∙ reads.0, c.answer_next.ensures.answers.keeps.0.1 ∙ reads.1, c.answer_next.ensures.answers.keeps.0.2 ∙ reads.2),
       c.answer_next.ensures.answers.keeps.1 ∙ writes,
       refl,
-      keeps_then _ _ _ _ _ _ turns c.answer_next.ensures.moves.turns,
+      keeps_then _ _ _ turns c.answer_next.ensures.moves.turns,
     )
 
 pub returns-in_err-fault-clause-moves : goal.returns-in_err-fault-clause-moves
 returns-in_err-fault-clause-moves g c =
     record {
-      turns = let (_, _, _, _, _, turns) = c.loop.invariant in keeps_then _ _ _ _ _ _ turns c.answer_next.ensures.moves.turns;
+      turns = let (_, _, _, _, _, turns) = c.loop.invariant in keeps_then _ _ _ turns c.answer_next.ensures.moves.turns;
       goes = let (goes, _, _, _, _, _) = c.loop.invariant in
           moves-err _ c.from_residual.result c.from_residual.ensures.0 (told_both _ _ _ _ _ _ _ _ _ _ _ _ goes c.answer_next.ensures.moves.goes);
       plain = let (_, _, _, _, _, turns) = c.loop.invariant in
@@ -35,7 +35,7 @@ returns-in_err-fault-clause-moves g c =
 pub returns-in_default-clause-moves : goal.returns-in_default-clause-moves
 returns-in_default-clause-moves g c =
     record {
-      turns = let (_, _, _, _, _, turns) = c.loop.invariant in keeps_then _ _ _ _ _ _ turns c.answer_next.ensures.moves.turns;
+      turns = let (_, _, _, _, _, turns) = c.loop.invariant in keeps_then _ _ _ turns c.answer_next.ensures.moves.turns;
       goes = let (goes, _, _, _, _, _) = c.loop.invariant in
           as_fault _ c.in_ok-fault.fault c.in_default.not-Idle c.in_default.not-Moved (told_both _ _ _ _ _ _ _ _ _ _ _ _ goes c.answer_next.ensures.moves.goes);
       plain = tt;
@@ -44,7 +44,7 @@ returns-in_default-clause-moves g c =
 pub returns-in-Idle-clause-moves : goal.returns-in-Idle-clause-moves
 returns-in-Idle-clause-moves g c =
     record {
-      turns = let (_, _, _, _, _, turns) = c.loop.invariant in keeps_then _ _ _ _ _ _ turns c.answer_next.ensures.moves.turns;
+      turns = let (_, _, _, _, _, turns) = c.loop.invariant in keeps_then _ _ _ turns c.answer_next.ensures.moves.turns;
       goes = let (goes, _, _, _, _, _) = c.loop.invariant in
           told_idle _ _ _ _ _ _ _ _ _ _ _ goes (rw c.in-Idle.is at c.in_ok-fault.ensures.moves.goes);
       plain = tt;

@@ -8,10 +8,10 @@ use Rattle.proxy_engines.proofs.link.Link.answer_all.Given as goal
 
 abbrev pub invariant-loop : goal.invariant-loop
 invariant-loop g l =
-    AsTold (GoesBy l.fn.outbox l.outbox (Some l.fn.self) (Some l.self) (own_history g.T.Turns.pass g.T.Turns.seen l.fn.turns)
-    (own_history g.T.Turns.pass g.T.Turns.seen l.turns) l.fn.moment) (told_by_outcome l.outcome)
+    AsTold (GoesBy l.fn.outbox l.outbox (Some l.fn.self) (Some l.self) (own_history (g.T.Turns.facts l.fn.turns))
+    (own_history (g.T.Turns.facts l.turns)) l.fn.moment) (told_by_outcome l.outcome)
     × (l.self.inbox.values.refusal ≡ None)
     × KeepsReader l.fn.self.inbox l.self.inbox
     × (l.self.counts ≡ l.fn.self.counts)
     × (is_fault l.outcome ≡ false)
-    × KeepsTurns g.T.Turns.pass g.T.Turns.setting g.T.Turns.seen l.fn.turns l.turns
+    × KeepsTurns (g.T.Turns.facts l.fn.turns) (g.T.Turns.facts l.turns)

@@ -19,7 +19,7 @@ returns-in-Value-clause-moves g c =
 pub returns-in-Garbled-clause-moves : goal.returns-in-Garbled-clause-moves
 returns-in-Garbled-clause-moves g c =
     record {
-      turns = keeps_same _ _ _ _;
+      turns = keeps_same _;
       goes = (false, c.next_value.ensures.goes _ _ _);
       plain = tt;
     }
@@ -27,7 +27,7 @@ returns-in-Garbled-clause-moves g c =
 pub returns-in-Idle-clause-moves : goal.returns-in-Idle-clause-moves
 returns-in-Idle-clause-moves g c =
     record {
-      turns = keeps_same _ _ _ _;
+      turns = keeps_same _;
       goes = c.next_value.ensures.goes _ _ _;
       plain = tt;
     }
@@ -35,7 +35,7 @@ returns-in-Idle-clause-moves g c =
 pub returns-in_err-next_value-clause-moves : goal.returns-in_err-next_value-clause-moves
 returns-in_err-next_value-clause-moves g c =
     record {
-      turns = keeps_same _ _ _ _;
+      turns = keeps_same _;
       goes = moves-err _ c.from_residual.result c.from_residual.ensures.0 (false, c.next_value.ensures.goes _ _ _);
       plain = let (_, result_is, error_is) = err_from_is_err_and c.from_residual.result c.from_residual.ensures.1 in rw (result_is, error_is, c.in_err-next_value.ensures.looks.err.0) (tt, inl tt);
     }

@@ -18,7 +18,7 @@ returns-then-is_fault-2-clause-moves g c =
 pub returns-in_err-after-clause-moves : goal.returns-in_err-after-clause-moves
 returns-in_err-after-clause-moves g c =
     record {
-      turns = keeps_then _ _ _ _ _ _ c.answer_all.ensures.moves.turns c.answer_all-2.ensures.moves.turns;
+      turns = keeps_then _ _ _ c.answer_all.ensures.moves.turns c.answer_all-2.ensures.moves.turns;
       goes = let heard = told_both _ _ _ _ _ _ _ _ _ _ _ _ c.answer_all.ensures.moves.goes (c.read-heard.ensures.goes _ _ _) in
           moves-err _ c.from_residual-in_err-after.result c.from_residual-in_err-after.ensures.0 (told_both _ _ _ _ _ _ _ _ _ _ (Some heard.0) _ heard.1 c.answer_all-2.ensures.moves.goes);
       plain = let (_, result_is, error_is) = err_from_is_err_and c.from_residual-in_err-after.result c.from_residual-in_err-after.ensures.1 in rw (result_is, error_is) (rw c.answer_all.ensures.moves.turns.setting_is at c.in_err-after.ensures.moves.plain);
@@ -27,7 +27,7 @@ returns-in_err-after-clause-moves g c =
 pub returns-then-is_fault-3-clause-moves : goal.returns-then-is_fault-3-clause-moves
 returns-then-is_fault-3-clause-moves g c =
     record {
-      turns = keeps_then _ _ _ _ _ _ c.answer_all.ensures.moves.turns c.answer_all-2.ensures.moves.turns;
+      turns = keeps_then _ _ _ c.answer_all.ensures.moves.turns c.answer_all-2.ensures.moves.turns;
       goes = let heard = told_both _ _ _ _ _ _ _ _ _ _ _ _ c.answer_all.ensures.moves.goes (c.read-heard.ensures.goes _ _ _) in
           as_faulty _ c.in_ok-after.after (sym c.is_fault-3.ensures ∙ c.if-is_fault-3.true) (told_both _ _ _ _ _ _ _ _ _ _ (Some heard.0) _ heard.1 c.answer_all-2.ensures.moves.goes);
       plain = tt;
@@ -36,7 +36,7 @@ returns-then-is_fault-3-clause-moves g c =
 pub returns-clause-moves : goal.returns-clause-moves
 returns-clause-moves g c =
     record {
-      turns = keeps_then _ _ _ _ _ _ c.answer_all.ensures.moves.turns c.answer_all-2.ensures.moves.turns;
+      turns = keeps_then _ _ _ c.answer_all.ensures.moves.turns c.answer_all-2.ensures.moves.turns;
       goes = rw (c.or-2.ensures.is, c.or.ensures.is)
           (told_either _ _ _ _ _ _ _ _ _ _ _ c.in_ok-after.after (told_either _ _ _ _ _ _ _ _ _ _ c.in_ok-before.before c.read-heard.result c.in_ok-before.ensures.moves.goes (c.read-heard.ensures.goes _ _ _))
           c.in_ok-after.ensures.moves.goes);

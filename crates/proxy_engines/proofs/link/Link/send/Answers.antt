@@ -8,7 +8,7 @@ use Rattle.proxy_engines.proofs.link.Link.send.Goals as goal
 pub returns-then-not-is_empty-clause-moves : goal.returns-then-not-is_empty-clause-moves
 returns-then-not-is_empty-clause-moves g c =
     record {
-      turns = keeps_same _ _ _ _;
+      turns = keeps_same _;
       goes = c.write.ensures.goes _ _;
       plain = tt;
     }

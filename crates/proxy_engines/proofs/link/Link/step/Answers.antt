@@ -14,7 +14,7 @@ use Rattle.proxy_engines.proofs.link.Link.step.Goals as goal
 pub returns-in_err-received-clause-moves : goal.returns-in_err-received-clause-moves
 returns-in_err-received-clause-moves g c =
     record {
-      turns = keeps_then _ _ _ _ _ _ c.send.ensures.moves.turns c.receive.ensures.moves.turns;
+      turns = keeps_then _ _ _ c.send.ensures.moves.turns c.receive.ensures.moves.turns;
       goes = moves-err _ c.from_residual-in_err-received.result c.from_residual-in_err-received.ensures.0 (told_both _ _ _ _ _ _ _ _ _ _ _ _ c.send.ensures.moves.goes c.receive.ensures.moves.goes);
       plain = let (_, result_is, error_is) = err_from_is_err_and c.from_residual-in_err-received.result c.from_residual-in_err-received.ensures.1 in rw (result_is, error_is) (rw c.send.ensures.moves.turns.setting_is at c.in_err-received.ensures.moves.plain);
     }
@@ -22,7 +22,7 @@ returns-in_err-received-clause-moves g c =
 pub returns-then-is_fault-2-clause-moves : goal.returns-then-is_fault-2-clause-moves
 returns-then-is_fault-2-clause-moves g c =
     record {
-      turns = keeps_then _ _ _ _ _ _ c.send.ensures.moves.turns c.receive.ensures.moves.turns;
+      turns = keeps_then _ _ _ c.send.ensures.moves.turns c.receive.ensures.moves.turns;
       goes = as_faulty _ c.in_ok-received.received (sym c.is_fault-2.ensures ∙ c.if-is_fault-2.true) (told_both _ _ _ _ _ _ _ _ _ _ _ _ c.send.ensures.moves.goes c.receive.ensures.moves.goes);
       plain = tt;
     }
@@ -30,7 +30,7 @@ returns-then-is_fault-2-clause-moves g c =
 pub returns-then-is_late-clause-moves : goal.returns-then-is_late-clause-moves
 returns-then-is_late-clause-moves g c =
     record {
-      turns = keeps_then _ _ _ _ _ _ c.send.ensures.moves.turns c.receive.ensures.moves.turns;
+      turns = keeps_then _ _ _ c.send.ensures.moves.turns c.receive.ensures.moves.turns;
       goes = told_both _ _ _ _ _ _ _ _ _ _ _ _ c.send.ensures.moves.goes c.receive.ensures.moves.goes;
       plain = tt;
     }
@@ -38,7 +38,7 @@ returns-then-is_late-clause-moves g c =
 pub returns-clause-moves : goal.returns-clause-moves
 returns-clause-moves g c =
     record {
-      turns = keeps_then _ _ _ _ _ _ c.send.ensures.moves.turns c.receive.ensures.moves.turns;
+      turns = keeps_then _ _ _ c.send.ensures.moves.turns c.receive.ensures.moves.turns;
       goes = rw c.or.ensures.is (told_either _ _ _ _ _ _ _ _ _ _ c.in_ok-sent.sent c.in_ok-received.received c.in_ok-sent.ensures.moves.goes c.in_ok-received.ensures.moves.goes);
       plain = tt;
     }
@@ -67,8 +67,8 @@ returns-clause-works g c =
           let sent = c.in_ok-sent.ensures.sends.idle both.0 in
           let received = c.in_ok-received.ensures.receives.idle both.1 in (
             subst (λ (i : InboxState). HasRisen i.counts.paused c.receive.new.self.inbox.counts.paused) c.send.ensures.sends.keeps.0 received,
-            subst (λ (n : Counts). HasRisen c.args.self.now.counts.paused n.paused ⊎ ((c.args.outbox.now.pending ≡ []) × HasHeld (g.T.Turns.cause (g.T.Turns.setting c.args.turns.now) Refusal.NothingWaiting) (Event.Taken c.args.outbox.now.host) (g.T.Turns.seen c.args.turns.now) (g.T.Turns.seen c.receive.new.turns))) (sym c.receive.ensures.receives.writes)
-                (idle_then (g.T.Turns.cause (g.T.Turns.setting c.args.turns.now) Refusal.NothingWaiting) (Event.Taken c.args.outbox.now.host) _ _ _ _ _ c.send.ensures.moves.turns.begins c.receive.ensures.moves.turns.begins sent),
+            subst (λ (n : Counts). HasRisen c.args.self.now.counts.paused n.paused ⊎ ((c.args.outbox.now.pending ≡ []) × HasHeld (g.T.Turns.cause (g.T.Turns.facts c.args.turns.now).setting Refusal.NothingWaiting) (Event.Taken c.args.outbox.now.host) (g.T.Turns.facts c.args.turns.now).seen (g.T.Turns.facts c.receive.new.turns).seen)) (sym c.receive.ensures.receives.writes)
+                (idle_then (g.T.Turns.cause (g.T.Turns.facts c.args.turns.now).setting Refusal.NothingWaiting) (Event.Taken c.args.outbox.now.host) _ _ _ _ _ c.send.ensures.moves.turns.begins c.receive.ensures.moves.turns.begins sent),
           );
       calm = λ calm. record {
         all = (c.in_ok-received.ensures.receives.calm (sym c.is_fault-2.ensures ∙ c.if-is_fault-2.false)).all;

@@ -5,11 +5,11 @@ use Rattle.proxy_generations.proofs.lifecycle.Generations.progressed.Goals as go
 
 pub returns-then-is_in_the_way : goal.returns-then-is_in_the_way
 returns-then-is_in_the_way g c =
-    tells_it (Progressed c.args.number c.args.now) c.args.self.now _ (λ s es st.
-    let way = (way_is c.args.self.now s es c.args.number st).0 (c.is_in_the_way.ensures.0 c.if-is_in_the_way.true) in
-    (way, stands_progressed c.args.self.now s es c.args.number c.args.now st way))
+    tells_it (Progressed c.args.at.number c.args.at.now) c.args.self.now _ (λ s es st.
+    let way = (way_is c.args.self.now s es c.args.at.number st).0 (c.is_in_the_way.ensures.0 c.if-is_in_the_way.true) in
+    (way, stands_progressed c.args.self.now s es c.args.at.number c.args.at.now st way))
 
 pub returns-else-is_in_the_way : goal.returns-else-is_in_the_way
 returns-else-is_in_the_way g c =
-    tells_nothing (Progressed c.args.number c.args.now) c.args.self.now (λ s es st may.
-    iff_false c.is_in_the_way.ensures c.if-is_in_the_way.false ((way_is c.args.self.now s es c.args.number st).1 may))
+    tells_nothing (Progressed c.args.at.number c.args.at.now) c.args.self.now (λ s es st may.
+    iff_false c.is_in_the_way.ensures c.if-is_in_the_way.false ((way_is c.args.self.now s es c.args.at.number st).1 may))

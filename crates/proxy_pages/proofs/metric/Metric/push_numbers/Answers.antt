@@ -1,4 +1,4 @@
-use Rattle.std.proofs.Common.{◌≡◌, ◌++◌, List, ℕ, [], sym, ap, subst, ◌∙◌}
+use Rattle.std.proofs.Common.{◌≡◌, ◌++◌, List, ℕ, sym, ap, subst, ◌∙◌}
 use Rattle.std.specs.Prelude.{codes, OnOk}
 use Rattle.std.proofs.lemmas.Result.{on_ok_weaker}
 use Rattle.proxy_pages.specs.Lines.{labelled_text}
@@ -12,7 +12,7 @@ returns-in_ok-push_labelled-in-ByJournal c =
     let name = c.args.self.now.name.now in
     let old = c.args.page.now.items in
     let between = c.push_labelled.new.page.items in
-    let line : List ℕ → ℕ → List ℕ = λ journal n. labelled_text name [] (codes "journal") journal n in
+    let line : List ℕ → ℕ → List ℕ = λ journal n. labelled_text name (codes "journal") journal n in
     let first : between ≡ old ++ line (codes "serving") _ =
     c.in_ok-push_labelled-in-ByJournal.ensures ∙ ap (λ n. old ++ line (codes "serving") n) c.of-serving.ensures in
     let second = on_ok_weaker c.push_labelled-in-ByJournal.result (λ e. e ∙ ap (λ n. between ++ line (codes "draining") n) c.of-draining.ensures) c.push_labelled-in-ByJournal.ensures in

@@ -22,8 +22,8 @@ pub returns-in-Head-clause-reads : goal.returns-in-Head-clause-reads
 returns-in-Head-clause-reads c = λ held r.
     on_to c.args.most held c.args.self.now _ c.args.head c.in-Ok.next c.as_slice.result.now c.min-visible.result c.in-Ok.taken c.len.result c.as_slice.ensures (omega (arith, c.len.ensures)) c.in-Ok.ensures.inside c.in-Ok.ensures.gives c.requires.head.0 c.requires.head.1 c.advance.ensures.items refl c.requires.head.0 refl refl r
 
-pub returns-in-Head-clause-none : goal.returns-in-Head-clause-none
-returns-in-Head-clause-none c = λ held r.
+pub returns-in-Head-clause-came : goal.returns-in-Head-clause-came
+returns-in-Head-clause-came c = λ held r.
     let p = c.args.self.now in
     let e : c.as_slice.result.now ≡ p.pending.items = c.as_slice.ensures in
     let l : c.len.result ≡ length p.opens.items = omega (arith, c.len.ensures) in

@@ -1,0 +1,155 @@
+//! How a worker opens the sockets in its queue.
+
+use super::{MAX_EVENTS, Worker};
+use fresh_stream::FreshStream;
+use mio::Token;
+use proxy_connections::{CarriedSocket, Opened, StepError};
+use proxy_exit_status::Ending;
+use proxy_generations::Phase;
+use proxy_server::Stop;
+use std::sync::Wait;
+
+impl Worker<'_> {
+    fn count_refusal(&mut self) -> Result<(), Stop> {
+        self.lacks_memory = true;
+        self.may_have_sockets = true;
+        if self.opening.refused() {
+            Err(Stop::from(Ending::Memory))
+        } else {
+            Ok(())
+        }
+    }
+
+    fn handle_open_error(&mut self, error: StepError) -> Result<(), Stop> {
+        match error {
+            StepError::Memory => self.count_refusal(),
+            StepError::Full | StepError::Ends(_) | StepError::EndsOne => self.handle_step_error(
+                error,
+            ),
+        }
+    }
+
+    // Borrows room for one more connection and a command of it. False: the generation doesn't serve, or its journal has no such
+    // room, and takes nothing more in.
+    fn borrow_to_open<R: Wait>(&mut self, rt: &R) -> bool {
+        if self.generation.worker_phase() != Phase::Serving {
+            return false;
+        }
+        let has_room = self
+            .connections
+            .borrow_for_client(rt, &self.generation.room);
+        if !has_room {
+            self.generation.room.stop_accepting();
+        }
+        has_room
+    }
+
+    // Opens the sockets in the worker's queue, carried-over ones first. Each is counted before the phase is read: so
+    // none comes to a generation that has drained. One that drains already counts none.
+    pub(super) fn open_sockets<R: Wait>(&mut self, rt: &R) -> Result<(), Stop> {
+        self.may_have_sockets = false;
+        if self.generation.worker_phase() != Phase::Serving {
+            return Ok(());
+        }
+        for _ in 0..MAX_EVENTS {
+            if !self.generation.server().has_waiting(rt, self.index()) {
+                return Ok(());
+            }
+            self.generation.room.count_opened();
+            let opened = if self.borrow_to_open(rt) {
+                self.open_next(rt)?
+            } else {
+                None
+            };
+            match opened {
+                Some(Opened::Kept) => {}
+                Some(Opened::Dropped) => self.generation.room.count_gone(),
+                None => {
+                    self.generation.room.count_gone();
+                    return Ok(());
+                }
+            }
+        }
+        self.may_have_sockets = true;
+        Ok(())
+    }
+
+    // Opens the first socket in the worker's queue, a carried-over one first. `None`: there is none, or it can't be opened
+    // for now.
+    fn open_next<R: Wait>(&mut self, rt: &R) -> Result<Option<Opened>, Stop> {
+        let server = self.generation.server();
+        if !self.connections.reserve_slot() {
+            self.count_refusal()?;
+            return Ok(None);
+        }
+        if let Some(carried) = server.take_carried(rt, self.index()) {
+            return self.open_carried(rt, carried);
+        }
+        match server.pop(rt, self.index()) {
+            Some(stream) => self.open(rt, stream),
+            None => Ok(None),
+        }
+    }
+
+    // Without room for its client the socket is closed.
+    fn handle_opened<R: Wait>(&mut self, rt: &R, opened: Opened) -> Opened {
+        self.opening.succeeded();
+        if let Opened::Dropped = opened {
+            self.generation.server().count_closed_and_dropped(rt);
+        }
+        opened
+    }
+
+    // The socket waits in the queue again where there is no memory or no step left; else, where its connection can't be
+    // opened, its buffered bytes are written and it is closed.
+    fn open_carried<R: Wait>(
+        &mut self,
+        rt: &R,
+        carried: CarriedSocket,
+    ) -> Result<Option<Opened>, Stop> {
+        let round = self
+            .generation
+            .round(self.poll.registry(), self.mode, self.now);
+        match self.connections.open_carried(rt, round, carried) {
+            Ok(opened) => Ok(Some(self.handle_opened(rt, opened))),
+            Err((error, carried)) => self.refuse_carried(rt, error, carried),
+        }
+    }
+
+    fn refuse_carried<R: Wait>(
+        &mut self,
+        rt: &R,
+        error: StepError,
+        carried: CarriedSocket,
+    ) -> Result<Option<Opened>, Stop> {
+        let server = self.generation.server();
+        self.handle_open_error(error)?;
+        if error.ends_one() {
+            self.connections.close_carried(carried);
+            server.count_closed_and_dropped(rt);
+            return Ok(Some(Opened::Dropped));
+        }
+        server.carry_back(rt, self.index(), carried);
+        Ok(None)
+    }
+
+    // A socket whose connection can't be opened is dropped.
+    fn open<R: Wait>(&mut self, rt: &R, mut stream: FreshStream) -> Result<Option<Opened>, Stop> {
+        let token = Token(self.connections.vacant_key());
+        if stream.register(self.poll.registry(), token).is_err() {
+            self.generation.server().count_dropped(rt);
+            return Ok(Some(Opened::Dropped));
+        }
+        let round = self
+            .generation
+            .round(self.poll.registry(), self.mode, self.now);
+        match self.connections.open(rt, round, stream) {
+            Ok(opened) => Ok(Some(self.handle_opened(rt, opened))),
+            Err(error) => {
+                self.generation.server().count_dropped(rt);
+                self.handle_open_error(error)?;
+                Ok(Some(Opened::Dropped))
+            }
+        }
+    }
+}

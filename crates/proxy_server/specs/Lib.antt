@@ -1,0 +1,6 @@
+pub mod CountSums
+pub mod LookSums
+pub mod Living
+pub mod Words
+pub mod Board
+pub mod Stop
