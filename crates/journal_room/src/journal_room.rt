@@ -8,9 +8,11 @@ ghost use Rattle.journal_budget.specs.Payload.{HasRoomForCommand, HasRoomForRepl
 ghost use Rattle.journal_room.specs.declared.journal_room.TheConstants.{LARGE, LARGE_STEP};
 
 use crate::metered_turns::{HeldTurns, MeteredTurns};
+use crate::open_connections::{OpenConnection, OpenConnections};
 use crossbeam_utils::CachePadded;
 use journal_budget::Ledger;
 use limits::{MAX_COMMAND_STEPS, MAX_UNFINISHED};
+use std::alloc::{AllocError, Global};
 use std::mem;
 use std::sync::atomic::{AtomicBool, AtomicU64, Ordering};
 use std::sync::{Mutex, Wait};
@@ -28,7 +30,7 @@ const MAX_LENT: u64 = 65_536;
 /// waits for it.
 pub struct JournalRoom {
     workers: u64,
-    open: AtomicU64,
+    open: OpenConnections,
     ledger: CachePadded<Mutex<Ledger>>,
     // No further commands are accepted, so that accepted ones can be answered before the journal is full.
     is_full: AtomicBool,
@@ -48,15 +50,15 @@ impl Drop for JournalRoom {
 }
 
 impl JournalRoom {
-    /// The room in an empty journal. `average` is the last generation's payload bytes a step.
-    pub fn new(workers: u64, average: u64) -> JournalRoom {
-        JournalRoom {
+    /// The room in an empty journal. `average` is the last generation's payload bytes a step. Refused for want of memory.
+    pub fn new(alloc: Global, workers: u64, average: u64) -> Result<JournalRoom, AllocError> {
+        Ok(JournalRoom {
             workers,
-            open: AtomicU64::new(0),
+            open: OpenConnections::new(alloc)?,
             ledger: CachePadded::new(Mutex::new(Ledger::new(average))),
             is_full: AtomicBool::new(false),
             unfinished: CachePadded::new(AtomicU64::new(0)),
-        }
+        })
     }
 
     /// Reports the worker's turns, takes back unspent steps, and lends this reserve again. The turns leave the gate.
@@ -71,7 +73,7 @@ impl JournalRoom {
         turns.leave();
         let mut ledger = self.ledger.lock(rt);
         let ledger = &mut *ledger;
-        let open = self.open.load(Ordering::SeqCst);
+        let open = self.open.count();
         turns.account.settle(ledger, open);
         turns.account.borrow_steps(ledger, reserve);
     }
@@ -200,19 +202,14 @@ impl JournalRoom {
         self.is_full.store(true, Ordering::SeqCst);
     }
 
-    /// Counts a socket that may get a connection here.
-    pub fn count_opened(&self) {
-        self.open.fetch_add(1, Ordering::SeqCst);
-    }
-
-    /// Takes one back: it has no connection here.
-    pub fn count_gone(&self) {
-        self.open.fetch_sub(1, Ordering::SeqCst);
+    /// Counts a socket that may get a connection here, until what is returned is dropped. Refused for want of memory.
+    pub fn count_opened(&self) -> Result<OpenConnection, AllocError> {
+        self.open.open()
     }
 
     /// Whether a socket has a connection here, or may get one.
     pub fn has_connections(&self) -> bool {
-        self.open.load(Ordering::SeqCst) != 0
+        self.open.count() != 0
     }
 
     /// Changes the bytes of a connection's unfinished command.

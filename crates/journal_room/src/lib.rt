@@ -18,9 +18,11 @@
 mod journal_room;
 mod laws;
 mod metered_turns;
+mod open_connections;
 mod turn_step;
 
 pub use journal_budget::TurnCounts;
 pub use journal_room::JournalRoom;
 pub use laws::part_errors_are_short;
 pub use metered_turns::{HeldTurns, MeteredTurns};
+pub use open_connections::OpenConnection;

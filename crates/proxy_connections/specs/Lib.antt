@@ -4,3 +4,4 @@ pub mod Stages
 pub mod Places
 pub mod WorkerConnections
 pub mod Links
+pub mod Room

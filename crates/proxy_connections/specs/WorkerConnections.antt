@@ -154,9 +154,9 @@ abbrev pub MayClose : Slab ClientConnection → ℕ → Type 0
 MayClose clients key = (client : ClientConnection) → IsAt clients key client
     → (is_lingering client.stage ≡ true) × HasPassedAll client.engine.outbox
 
--- the socket of the client at this key, if there is one, may go over
+-- there is a client at this key, and its socket may go over
 abbrev pub MayCarry : Slab ClientConnection → ℕ → Type 0
-MayCarry clients key = (client : ClientConnection) → IsAt clients key client → MayGoOver client.engine
+MayCarry clients key = (client : ClientConnection) × IsAt clients key client × MayGoOver client.engine
 
 -- what a client's round says of the one at this key: it may be dropped, or its socket may go over, where that is its result
 abbrev pub LetsGo : Stepped → Slab ClientConnection → ℕ → Type 0

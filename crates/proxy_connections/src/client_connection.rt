@@ -1,19 +1,20 @@
 //! A client's connection, as its worker holds it.
-ghost use Rattle.std.specs.Prelude.{◌≡◌, ◌≢◌, true, false, Some, Ok, Err, IfOk, IfErr, IfSome, OnErr};
+ghost use Rattle.std.specs.Prelude.{◌≡◌, ◌≢◌, ◌⊎◌, true, false, Some, Ok, Err, IfOk, IfErr, IfSome, OnErr};
 ghost use Rattle.proxy_engines.specs.Keeps.{KeepsSocket};
 ghost use Rattle.proxy_engines.specs.OneTurn.{IsDueError};
 ghost use Rattle.proxy_engines.specs.Turns.{own_history};
+ghost use Rattle.proxy_connections.specs.Room.{HasRoom};
 ghost use Rattle.proxy_connections.specs.Stages.{ComesTo, HasGoneOut, HasPassedAll, IsOverAt, MayGoOver, PassesOn, TellsClosed, TellsEnd, end_of, is_lingering};
 ghost use Rattle.proxy_connections.specs.Sockets.{CarriesItsSocket, MayDrain, OpensSocket};
 
 use crate::socket::{Reader, SharedStream, Socket, Writer, note_readable, note_writable};
 use crate::stage::{EngineEnd, SocketStage};
 use crate::step_error::StepError;
-use fresh_stream::FreshStream;
-use journal_room::{HeldTurns, JournalRoom, MeteredTurns, TurnCounts};
+use journal_room::{HeldTurns, JournalRoom, MeteredTurns, OpenConnection, TurnCounts};
 use limits::{LINGER_MS, MAX_SPARED};
 use mio::event::Event as Readiness;
 use mio::{Registry, Token};
+use open_sockets::{AdmittedStream, OpenSocket};
 use proxy_engines::{ClientEngine, EngineError, Progress, Rest};
 use proxy_exit_status::Ending;
 use proxy_histogram::{Histogram, Unanswered};
@@ -38,8 +39,10 @@ pub(crate) struct ClientRound<'a> {
     pub(crate) carries_over: bool,
 }
 
+/// Where a connection is opened on a carried-over socket.
 #[derive(Clone, Copy, Drop)]
-pub(crate) struct PollPlace<'a> {
+pub(crate) struct Opening<'a> {
+    pub(crate) alloc: Global,
     pub(crate) registry: &'a Registry,
     pub(crate) token: Token,
 }
@@ -93,6 +96,7 @@ pub enum Stepped {
 /// A socket on its way to the next generation, with its input that no command was made of and its unwritten output.
 pub struct CarriedSocket {
     stream: SharedStream,
+    open_socket: OpenSocket,
     reader: Reader,
     writer: Writer,
     rest: Rest,
@@ -104,6 +108,7 @@ impl Drop for CarriedSocket {
     fn drop(self) {
         let CarriedSocket {
             stream: _,
+            open_socket: _,
             reader: _,
             writer: _,
             rest: _,
@@ -135,9 +140,9 @@ impl CarriedSocket {
     fn into_client<R: Wait, T: HeldTurns>(
         self,
         rt: &R,
-        alloc: Global,
         turns: &mut MeteredTurns<T>,
-        registry: &Registry,
+        opening: Opening<'_>,
+        open_connection: OpenConnection,
     ) -> Result<ClientConnection, (EngineError, CarriedSocket)>
         ensures ok { IfOk result (λ c. OpensSocket c.engine
             (own_history (T.facts turns.old.turns))
@@ -147,6 +152,7 @@ impl CarriedSocket {
     {
         let CarriedSocket {
             stream,
+            open_socket,
             mut reader,
             mut writer,
             rest,
@@ -157,15 +163,20 @@ impl CarriedSocket {
         let unfinished = reader.count().saturating_sub(begun);
         match ClientEngine::open_with(rt, turns, reader, writer, rest) {
             Ok(engine) => {
-                let mut client = ClientConnection::new(alloc, engine, stream);
+                let counted = Counted {
+                    open_socket,
+                    open_connection,
+                };
+                let mut client = ClientConnection::new(opening.alloc, engine, stream, counted);
                 client.begun = begun;
                 client.unfinished = unfinished;
                 Ok(client)
             }
             Err((error, reader, writer, rest)) => {
-                stream.deregister(registry);
+                stream.deregister(opening.registry);
                 let carried = CarriedSocket {
                     stream,
+                    open_socket,
                     reader,
                     writer,
                     rest,
@@ -177,9 +188,17 @@ impl CarriedSocket {
     }
 }
 
+/// Where a client is counted, for as long as it is there.
+#[derive(Drop)]
+struct Counted {
+    open_socket: OpenSocket,
+    open_connection: OpenConnection,
+}
+
 pub(crate) struct ClientConnection {
     engine: Engine,
     stream: SharedStream,
+    counted: Counted,
     stage: SocketStage,
     waits: Unanswered,
     // The last round ended before all was done.
@@ -200,6 +219,7 @@ impl Drop for ClientConnection {
         let ClientConnection {
             engine: _,
             stream: _,
+            counted: _,
             stage: _,
             waits: _,
             has_more: _,
@@ -211,13 +231,19 @@ impl Drop for ClientConnection {
 }
 
 impl ClientConnection {
-    fn new(alloc: Global, engine: Engine, stream: SharedStream) -> ClientConnection
+    fn new(
+        alloc: Global,
+        engine: Engine,
+        stream: SharedStream,
+        counted: Counted,
+    ) -> ClientConnection
         ensures engine { result.engine ≡ engine }
         ensures stage { result.stage ≡ SocketStage.Served }
     {
         ClientConnection {
             engine,
             stream,
+            counted,
             stage: SocketStage::Served,
             waits: Unanswered::new(alloc),
             has_more: true,
@@ -231,7 +257,8 @@ impl ClientConnection {
         rt: &R,
         alloc: Global,
         turns: &mut MeteredTurns<T>,
-        stream: FreshStream,
+        stream: AdmittedStream,
+        open_connection: OpenConnection,
     ) -> Result<ClientConnection, EngineError>
         ensures ok { IfOk result (λ c. OpensSocket c.engine
             (own_history (T.facts turns.old.turns))
@@ -239,6 +266,7 @@ impl ClientConnection {
         ensures err { OnErr result (own_history (T.facts turns.new.turns)
             ≡ own_history (T.facts turns.old.turns)) }
     {
+        let (stream, open_socket) = stream.into_parts();
         let Ok(
             Socket {
                 stream,
@@ -250,15 +278,19 @@ impl ClientConnection {
             return Err(EngineError::NoMemory);
         };
         let engine = ClientEngine::open(rt, alloc, turns, reader, writer)?;
-        Ok(ClientConnection::new(alloc, engine, stream))
+        let counted = Counted {
+            open_socket,
+            open_connection,
+        };
+        Ok(ClientConnection::new(alloc, engine, stream, counted))
     }
 
     pub(crate) fn open_carried<R: Wait, T: HeldTurns>(
         rt: &R,
-        alloc: Global,
         turns: &mut MeteredTurns<T>,
-        place: PollPlace<'_>,
+        opening: Opening<'_>,
         carried: CarriedSocket,
+        open_connection: OpenConnection,
     ) -> Result<ClientConnection, (EngineError, CarriedSocket)>
         ensures ok { IfOk result (λ c. OpensSocket c.engine
             (own_history (T.facts turns.old.turns))
@@ -268,12 +300,12 @@ impl ClientConnection {
     {
         if carried
             .stream
-            .register(place.registry, place.token)
+            .register(opening.registry, opening.token)
             .is_err()
         {
             return Err((EngineError::ReadFailed, carried));
         }
-        carried.into_client(rt, alloc, turns, place.registry)
+        carried.into_client(rt, turns, opening, open_connection)
     }
 
     pub(crate) fn note_carried(&self, room: &JournalRoom) {
@@ -288,6 +320,7 @@ impl ClientConnection {
         let ClientConnection {
             engine,
             stream,
+            counted,
             begun,
             unfinished,
             stage: _,
@@ -300,8 +333,13 @@ impl ClientConnection {
             unreachable!()
         };
         stream.deregister(registry);
+        let Counted {
+            open_socket,
+            open_connection: _,
+        } = counted;
         CarriedSocket {
             stream,
+            open_socket,
             reader,
             writer,
             rest,
@@ -586,6 +624,9 @@ impl ClientConnection {
         ensures drains { MayDrain self.old.engine self.new.engine }
         ensures stage { self.new.stage ≡ self.old.stage }
         ensures turns { turns.new.turns ≡ turns.old.turns }
+        ensures room { (self.new.engine.is_drained ≡ true)
+            ⊎ (room_for.old ≡ Some turns.old.account.counts.accepted)
+            ⊎ HasRoom turns.new.account round.reserve self.old.unfinished }
     {
         if self.engine.is_drained() || *room_for == Some(turns.counts().accepted) {
             return;

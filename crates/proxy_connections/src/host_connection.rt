@@ -1,5 +1,6 @@
 //! A host's connection, as its worker holds it.
-ghost use Rattle.std.specs.Prelude.{◌≡◌, [], None, Some, IfOk};
+ghost use Rattle.std.specs.Prelude.{◌≡◌, ◌↔◌, ◌⊎◌, [], None, Some, IfOk, IsTrue};
+ghost use Rattle.journal_budget.specs.Budget.{free_steps};
 ghost use Rattle.proxy_history.specs.History.{History};
 ghost use Rattle.proxy_engines.specs.HostStep.{ends_of};
 ghost use Rattle.proxy_engines.specs.Turns.{own_history};
@@ -282,7 +283,7 @@ impl HostConnection {
                 self.refusals.succeeded();
                 Ok(HostMoved::On)
             }
-            Progress::NeedsLink if round.gives_up || turns.free_steps() == 0 => {
+            Progress::NeedsLink if makes_no_link(turns, round) => {
                 self.give_up(rt, turns, round.now)?;
                 Ok(HostMoved::On)
             }
@@ -579,4 +580,12 @@ impl HostConnection {
             Err(_) => Err(StepError::Memory),
         }
     }
+}
+
+// Whether waiting parts are given up for want of a link: no link is made any more, or a fault of it couldn't be recorded.
+fn makes_no_link<T: HeldTurns>(turns: &MeteredTurns<T>, round: HostRound<'_>) -> bool
+    ensures { IsTrue result
+        ↔ IsTrue round.gives_up ⊎ (free_steps turns.now.account.loan ≡ 0) }
+{
+    round.gives_up || turns.free_steps() == 0
 }

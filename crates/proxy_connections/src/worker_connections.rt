@@ -1,20 +1,19 @@
 //! The clients and hosts of a worker, and the turns by which these are stepped.
-ghost use Rattle.std.specs.Prelude.{◌≡◌, ◌<◌, ◌+◌, [], IfNone, IfOk, IfSome, None, OnOk, length, map};
-ghost use Rattle.slab.specs.Slab.{get};
+ghost use Rattle.std.specs.Prelude.{◌≡◌, ◌<◌, ◌+◌, [], IfOk, IfSome, None, OnOk, length, map};
 ghost use Rattle.proxy_notices.specs.Places.{hosts_of};
 ghost use Rattle.proxy_connections.specs.WorkerConnections.{AddsClient, ChangesClient, ChangesHost, IsNewcomer, KeepsClients, LetsGo, MakesRoom, MayCarry, MayClose, RemovesClient, RiseTo, ServesHosts, number_of, steps_of};
 
 use crate::client_connection::{
-    CarriedSocket, ClientConnection, ClientRound, Lent, PollPlace, Stepped,
+    CarriedSocket, ClientConnection, ClientRound, Lent, Opening, Stepped,
 };
 use crate::host_connection::{HostConnection, HostStepped};
 use crate::round::{HostRound, Round};
 use crate::step_error::StepError;
-use fresh_stream::FreshStream;
 use journal_budget::StepKind;
-use journal_room::{JournalRoom, MeteredTurns};
+use journal_room::{JournalRoom, MeteredTurns, OpenConnection};
 use mio::event::Event;
 use mio::{Registry, Token};
+use open_sockets::AdmittedStream;
 use proxy_config::Config;
 use proxy_exit_status::Ending;
 use proxy_histogram::Histogram;
@@ -279,11 +278,12 @@ impl<'a> WorkerConnections<'a> {
         &mut self,
         rt: &R,
         round: Round<'_>,
-        stream: FreshStream,
+        stream: AdmittedStream,
+        open_connection: OpenConnection,
     ) -> Result<Opened, StepError>
         ensures { AddsClient self.old self.new }
     {
-        match ClientConnection::open(rt, self.alloc, &mut self.turns, stream) {
+        match ClientConnection::open(rt, self.alloc, &mut self.turns, stream, open_connection) {
             Ok(client) => Ok(self.insert(round, client)),
             Err(error) => Err(StepError::from(error)),
         }
@@ -296,14 +296,17 @@ impl<'a> WorkerConnections<'a> {
         rt: &R,
         round: Round<'_>,
         carried: CarriedSocket,
+        open_connection: OpenConnection,
     ) -> Result<Opened, (StepError, CarriedSocket)>
         ensures { AddsClient self.old self.new }
     {
-        let place = PollPlace {
+        let opening = Opening {
+            alloc: self.alloc,
             registry: round.registry,
             token: Token(self.clients.vacant_key()),
         };
-        match ClientConnection::open_carried(rt, self.alloc, &mut self.turns, place, carried) {
+        let turns = &mut self.turns;
+        match ClientConnection::open_carried(rt, turns, opening, carried, open_connection) {
             Ok(client) => {
                 client.note_carried(round.room);
                 Ok(self.insert(round, client))
@@ -450,22 +453,18 @@ impl<'a> WorkerConnections<'a> {
     }
 
     /// Takes the socket of a client whose connection is closed with all answered, with its unused input, for the newest
-    /// generation. `None`: there is no such client.
-    pub fn carry(&mut self, round: Round<'_>, key: usize) -> Option<CarriedSocket>
+    /// generation.
+    pub fn carry(&mut self, round: Round<'_>, key: usize) -> CarriedSocket
         requires { MayCarry self.old.clients key }
-        ensures removes { RemovesClient key self.old self.new }
-        ensures none { IfNone result (get self.old.clients key ≡ None) }
+        ensures { RemovesClient key self.old self.new }
     {
         self.ready.forget(key);
-        match self.clients.try_remove(key) {
-            Some(client) => {
-                round
-                    .notices
-                    .remove_client(client.conn(), self.place.index, key);
-                Some(client.carry(round.registry, round.room))
-            }
-            None => None,
-        }
+        let Some(client) = self.clients.try_remove(key) else {
+            unreachable!()
+        };
+        let conn = client.conn();
+        round.notices.remove_client(conn, self.place.index, key);
+        client.carry(round.registry, round.room)
     }
 
     /// Counts a refusal of memory to a client's socket that would go over. The client tries again, unless too many were

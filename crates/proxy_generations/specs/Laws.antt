@@ -1,8 +1,9 @@
 -- What follows of generations, from what may happen.
-use Rattle.std.specs.Prelude.{◌≡◌, ◌⊎◌, ◌↔◌, ◌<◌, ◌≤◌, ◌+◌, ◌==◌, if◌then◌else◌, ℕ, true, Some, IsSome, List, [], ◌∷◌, ◌++◌, length, All, AllPairs, Contains}
+use Rattle.std.specs.Prelude.{◌≡◌, ◌≢◌, ◌⊎◌, ◌↔◌, ◌<◌, ◌≤◌, ◌+◌, ◌==◌, if◌then◌else◌, ℕ, true, Some, IsSome, List, [], ◌∷◌, ◌++◌, length, All, AllPairs, Contains}
 use Rattle.limits.specs.declared.journals.TheConstants.{GIVING_UP_MS, MAX_GENERATIONS}
 use Rattle.proxy_generations.specs.Events.{Event, Opened, Near, Full, newest, draining, in_the_way, has_connections, is_asked, near_since, asker, last_number}
 use Rattle.proxy_generations.specs.History.{IsHistory, IsStill, HasRoom}
+use Rattle.proxy_generations.specs.Phase.{IsAbove}
 
 -- Those that have connections are the newest one and those that drain,
 abbrev pub OpenHaveConnections : Type 0 → Type 0
@@ -17,6 +18,11 @@ FewDrain H = (es : List (Event H)) → IsHistory es → length (draining es) + 1
 abbrev pub DrainInOrder : Type 0 → Type 0
 DrainInOrder H = (es : List (Event H)) → IsHistory es
     → AllPairs (λ m n. m < n) (draining es) × ((n : ℕ) → newest es ≡ Some n → All (λ m. m < n) (draining es))
+
+-- None of those that drain is the newest, or newer than that.
+abbrev pub DrainingAreOlder : Type 0 → Type 0
+DrainingAreOlder H = (es : List (Event H)) → IsHistory es → (n : ℕ) → Contains (draining es) n
+    → (newest es ≢ Some n) × (¬ IsAbove (newest es) n)
 
 -- From the first opening on there always is a newest one, whatever comes later.
 abbrev pub OneIsOpen : Type 0 → Type 0

@@ -1,4 +1,4 @@
-ghost use Rattle.proxy_generations.specs.Laws.{AllOpenInTurn, DrainInOrder, FewDrain, GivenUpIfNear, NewestHandsOver, OldestIsInTheWay, OneIsOpen, OpenHaveConnections, StopsIfFull};
+ghost use Rattle.proxy_generations.specs.Laws.{AllOpenInTurn, DrainInOrder, DrainingAreOlder, FewDrain, GivenUpIfNear, NewestHandsOver, OldestIsInTheWay, OneIsOpen, OpenHaveConnections, StopsIfFull};
 
 /// At most `MAX_GENERATIONS` generations have connections. The next one opens only while one more may drain, from the
 /// handover of the newest one. Only the oldest one is given up or stops, where as many drain as may, and only after
@@ -13,4 +13,9 @@ pub fn generations_follow<H>()
     ensures oldest { OldestIsInTheWay H }
     ensures given_up { GivenUpIfNear H }
     ensures stops { StopsIfFull H }
+{}
+
+/// A generation that drains has opened, and serves no longer.
+pub fn draining_are_older<H>()
+    ensures { DrainingAreOlder H }
 {}

@@ -10,7 +10,7 @@ mod older;
 mod opened;
 mod phase;
 
-pub use laws::generations_follow;
+pub use laws::{draining_are_older, generations_follow};
 pub use lifecycle::{At, Due, Generations};
 pub use marks::{Look, Marks, Report};
 pub use mode::{Change, Mode};

@@ -14,6 +14,7 @@ use crate::sweeping::SweepThread;
 use crate::worker::{WAKER, WorkerSetup};
 use crossbeam_utils::CachePadded;
 use engine_work::{EngineError, Work, run_all};
+use journal_room::JournalRoom;
 use mio::{Poll, Waker};
 use proxy_config::Config;
 use proxy_core::{CountingCore, Handover};
@@ -258,7 +259,8 @@ fn open_and_run<R: ServeRuntime>(
     } = make_polls(rt, alloc, server.workers())?;
     let (notices, told) = make_notices(alloc, server.workers())?;
     let core = core(alloc, config, from, told)?;
-    let generation = GenerationState::new(server, number, average, workers, notices);
+    let room = JournalRoom::new(alloc, workers.len() as u64, average)?;
+    let generation = GenerationState::new(server, number, room, workers, notices);
     let context = ThreadContext {
         alloc,
         generation: &generation,

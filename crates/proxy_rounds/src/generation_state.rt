@@ -108,11 +108,11 @@ impl WorkerStatus {
 }
 
 impl<'a> GenerationState<'a> {
-    /// A generation to which nothing has happened. `average` is the last generation's payload bytes a step.
+    /// A generation to which nothing has happened, with the room in its journal.
     pub(crate) fn new(
         server: &'a Server,
         number: u64,
-        average: u64,
+        room: JournalRoom,
         workers: Vec<CachePadded<WorkerStatus>>,
         notices: Arc<Notices>,
     ) -> GenerationState<'a> {
@@ -127,7 +127,7 @@ impl<'a> GenerationState<'a> {
             taking: AtomicU64::new(count),
             is_stopped: AtomicBool::new(false),
             most_parts: parts_per_worker(count),
-            room: JournalRoom::new(count, average),
+            room,
         }
     }
 

@@ -136,7 +136,7 @@ impl Acceptor {
         for _ in 0..MAX_TAKEN {
             match FreshStream::accept(listener) {
                 Ok(stream) => {
-                    if server.admit(rt) {
+                    if let Some(stream) = server.admit(stream) {
                         server.push(rt, self.round_robin.take(), stream);
                     }
                 }

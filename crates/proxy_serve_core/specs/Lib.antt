@@ -1,4 +1,3 @@
-pub mod Sockets
 pub mod RoundRobin
 pub mod EjectionLog
 pub mod KeySet

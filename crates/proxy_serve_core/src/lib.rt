@@ -9,7 +9,6 @@ mod ready_clients;
 mod refusals;
 mod round_robin;
 mod signals;
-mod sockets;
 
 pub use ejection_log::EjectionLog;
 pub use key_range::KeyRange;
@@ -17,4 +16,3 @@ pub use ready_clients::ReadyClients;
 pub use refusals::Refusals;
 pub use round_robin::RoundRobin;
 pub use signals::{Asked, asked_by_signals, is_term_blocked};
-pub use sockets::Sockets;

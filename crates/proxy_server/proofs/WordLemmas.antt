@@ -6,8 +6,7 @@ use Rattle.proxy_generations.specs.History.{IsHistory}
 use Rattle.proxy_generations.specs.Phase.{IsPhase, IsTask}
 use Rattle.proxy_generations.specs.declared.phase.Phase.{Phase}
 use Rattle.proxy_generations.specs.declared.phase.Phase.TheVariants.{Unopened, Serving, Draining, GivingUp, Stopped}
-use Rattle.proxy_generations.proofs.ConnectionLemmas.{apart}
-use Rattle.proxy_generations.proofs.GenerationsStateLemmas.{not_above}
+use Rattle.proxy_generations.specs.Laws.{DrainingAreOlder}
 use Rattle.proxy_server.specs.Words.{AreShown, IsWord, code_of}
 use Rattle.proxy_server.specs.Board.{Shows}
 use Rattle.proxy_server.specs.declared.words.Shown.{Shown}
@@ -44,12 +43,12 @@ module _ {H : Type 0} where
   one_phase es n Stopped q a b = sym (b.stops.1 (a.stops.0 refl))
 
   -- one that drains has a task with a code
-  pub has_code : (es : List (Event H)) → IsHistory es → (n : ℕ) (task : Phase) → Contains (draining es) n → IsPhase task es n → code_of task < 3
-  has_code es h n Unopened c p = absurd (not_above es h n c (p.awaits.0 refl))
-  has_code es h n Serving c p = absurd (apart es h n (p.serves.0 refl) c)
-  has_code es h n Draining c p = omega arith
-  has_code es h n GivingUp c p = omega arith
-  has_code es h n Stopped c p = omega arith
+  pub has_code : DrainingAreOlder H → (es : List (Event H)) → IsHistory es → (n : ℕ) (task : Phase) → Contains (draining es) n → IsPhase task es n → code_of task < 3
+  has_code older es h n Unopened c p = absurd ((older es h n c).1 (p.awaits.0 refl))
+  has_code older es h n Serving c p = absurd ((older es h n c).0 (p.serves.0 refl))
+  has_code older es h n Draining c p = omega arith
+  has_code older es h n GivingUp c p = omega arith
+  has_code older es h n Stopped c p = omega arith
 
   -- the task by the words that show all
   pub task_by : (o : Option Phase) (words : List ℕ) (n : ℕ) (es : List (Event H)) → IfSome o (λ task. AreShown words n task)

@@ -5,16 +5,16 @@ use crate::stop::Stop;
 use fresh_stream::FreshStream;
 use limits::{MAX_FAILURES, MAX_GENERATIONS};
 use mio::Waker;
+use open_sockets::{AdmittedStream, OpenSockets};
 use proxy_config::Config;
 use proxy_core::Handover;
 use proxy_generations::{At, Due, Generations, Phase};
 use proxy_histogram::Histogram;
 use proxy_pages::Snapshot;
-use proxy_serve_core::{EjectionLog, Sockets};
+use proxy_serve_core::EjectionLog;
 use proxy_stats::{Counts, Sight};
 use std::alloc::Global;
 use std::collections::VecDeque;
-use std::sync::atomic::{AtomicBool, Ordering};
 use std::sync::{Mutex, MutexGuard, Wait};
 
 /// What a generation starts from.
@@ -29,7 +29,7 @@ pub struct Inherited {
 // A worker's waiting sockets, and its present waker.
 #[derive(Drop)]
 struct AcceptQueue<C: Drop> {
-    sockets: Mutex<VecDeque<FreshStream>>,
+    sockets: Mutex<VecDeque<AdmittedStream>>,
     carried: Mutex<VecDeque<C>>,
     waker: Mutex<Option<Waker>>,
 }
@@ -37,15 +37,10 @@ struct AcceptQueue<C: Drop> {
 /// What all threads share. `C` is a socket that goes over from one generation to the next.
 pub struct Server<C: Drop> {
     queues: Vec<AcceptQueue<C>>,
-    // Wakes the thread that accepts and opens generations.
-    waker: Waker,
-    // Whether the server goes on; if not, why, unless it is done.
-    is_running: AtomicBool,
+    // The open sockets, and whether the server goes on; if not, why, unless it is done.
+    sockets: OpenSockets,
     stop: Mutex<Option<Stop>>,
     log: Log,
-    // Whether it drains is readable without a lock.
-    sockets: Mutex<Sockets>,
-    is_draining: AtomicBool,
     // The board shows these without a lock.
     generations: Mutex<Generations<Inherited>>,
     board: Board,
@@ -57,12 +52,9 @@ impl<C: Drop> Drop for Server<C> {
     fn drop(self) {
         let Server {
             queues: _,
-            waker: _,
-            is_running: _,
+            sockets: _,
             stop: _,
             log: _,
-            sockets: _,
-            is_draining: _,
             generations: _,
             board: _,
             stats: _,
@@ -72,7 +64,8 @@ impl<C: Drop> Drop for Server<C> {
 }
 
 impl<C: Drop> Server<C> {
-    /// A server with a queue for each worker. The first generation is due. Refused only for want of memory.
+    /// A server with a queue for each worker. The first generation is due. The waker wakes the thread that accepts and opens
+    /// generations. The server ends after `connections` closed connections; 0 is never. Refused only for want of memory.
     pub fn new(
         alloc: Global,
         config: &Config,
@@ -91,12 +84,9 @@ impl<C: Drop> Server<C> {
         }
         Ok(Server {
             queues,
-            waker,
-            is_running: AtomicBool::new(true),
+            sockets: OpenSockets::new(alloc, waker, connections)?,
             stop: Mutex::new(None),
             log,
-            sockets: Mutex::new(Sockets::new(connections)),
-            is_draining: AtomicBool::new(false),
             generations: Mutex::new(Generations::new(interval_ms, MAX_FAILURES)),
             board: Board::new(alloc)?,
             stats: Mutex::new(Stats::new(alloc)?),
@@ -120,49 +110,21 @@ impl<C: Drop> Server<C> {
         }
     }
 
-    /// Counts an accepted socket. False: it is to be closed.
-    pub fn admit<R: Wait>(&self, rt: &R) -> bool {
-        self.sockets.lock(rt).admit()
-    }
-
-    // Ends the server if it waited for nothing else.
-    fn end_if_done(&self, sockets: MutexGuard<'_, Sockets>) {
-        let are_done = sockets.are_done();
-        drop(sockets);
-        if are_done {
-            self.halt();
-        }
-    }
-
-    /// Counts a dropped socket. The last one ends a draining server.
-    pub fn count_dropped<R: Wait>(&self, rt: &R) {
-        let mut sockets = self.sockets.lock(rt);
-        sockets.let_go();
-        self.end_if_done(sockets);
+    /// As [`OpenSockets::admit`].
+    pub fn admit(&self, stream: FreshStream) -> Option<AdmittedStream> {
+        self.sockets.admit(stream)
     }
 
     /// Counts a closed connection. The server ends after `connections` of them.
-    pub fn count_closed<R: Wait>(&self, rt: &R) {
-        let mut sockets = self.sockets.lock(rt);
-        sockets.close();
-        self.end_if_done(sockets);
-    }
-
-    /// Counts a closed connection and its dropped socket.
-    pub fn count_closed_and_dropped<R: Wait>(&self, rt: &R) {
-        self.count_closed(rt);
-        self.count_dropped(rt);
+    pub fn count_closed(&self) {
+        self.sockets.count_closed();
     }
 
     /// Accepts no further socket, and ends all inputs behind what has come. The last socket then ends the server.
     pub fn drain<R: Wait + Eprint>(&self, rt: &R) {
-        if self.is_draining.swap(true, Ordering::SeqCst) {
+        let Some(count) = self.sockets.drain() else {
             return;
-        }
-        let mut sockets = self.sockets.lock(rt);
-        sockets.drain();
-        let count = sockets.count();
-        self.end_if_done(sockets);
+        };
         let tag = self.log.tag(Level::Notice);
         let _ = eprintln!(rt; "{tag}redproxy: draining, {count} sockets of clients are open");
         self.wake_all(rt);
@@ -172,27 +134,25 @@ impl<C: Drop> Server<C> {
         for queue in self.queues.iter() {
             self.wake(rt, queue);
         }
-        let _ = self.waker.wake();
+        self.sockets.wake();
     }
 
     /// Whether the server drains.
     pub fn is_draining(&self) -> bool {
-        self.is_draining.load(Ordering::SeqCst)
+        self.sockets.is_draining()
     }
 
     /// Ends the server at once.
     pub fn quit(&self) {
-        self.halt();
+        self.sockets.end();
     }
 
     /// Queues a socket and wakes its worker. Without memory the socket is closed.
-    pub fn push<R: Wait>(&self, rt: &R, index: usize, stream: FreshStream) {
+    pub fn push<R: Wait>(&self, rt: &R, index: usize, stream: AdmittedStream) {
         let Some(queue) = self.queues.get(index) else {
-            return self.count_dropped(rt);
+            return;
         };
-        if queue.sockets.lock(rt).push_back(stream).is_err() {
-            self.count_dropped(rt);
-        }
+        let _ = queue.sockets.lock(rt).push_back(stream);
         self.wake(rt, queue);
     }
 
@@ -207,7 +167,7 @@ impl<C: Drop> Server<C> {
     }
 
     /// Takes the socket that waits longest.
-    pub fn pop<R: Wait>(&self, rt: &R, index: usize) -> Option<FreshStream> {
+    pub fn pop<R: Wait>(&self, rt: &R, index: usize) -> Option<AdmittedStream> {
         self.queues.get(index)?.sockets.lock(rt).pop_front()
     }
 
@@ -224,10 +184,10 @@ impl<C: Drop> Server<C> {
     /// Queues a carried-over socket, and wakes its worker. Without memory the socket is closed and counted.
     pub fn carry<R: Wait>(&self, rt: &R, index: usize, carried: C) {
         let Some(queue) = self.queues.get(index) else {
-            return self.count_closed_and_dropped(rt);
+            return self.count_closed();
         };
         if queue.carried.lock(rt).push_back(carried).is_err() {
-            self.count_closed_and_dropped(rt);
+            self.count_closed();
         }
         self.wake(rt, queue);
     }
@@ -235,10 +195,10 @@ impl<C: Drop> Server<C> {
     /// Puts a carried-over socket back at the front. Without memory it is closed and counted.
     pub fn carry_back<R: Wait>(&self, rt: &R, index: usize, carried: C) {
         let Some(queue) = self.queues.get(index) else {
-            return self.count_closed_and_dropped(rt);
+            return self.count_closed();
         };
         if queue.carried.lock(rt).push_front(carried).is_err() {
-            self.count_closed_and_dropped(rt);
+            self.count_closed();
         }
     }
 
@@ -249,20 +209,13 @@ impl<C: Drop> Server<C> {
 
     /// Whether the server goes on.
     pub fn runs(&self) -> bool {
-        self.is_running.load(Ordering::SeqCst)
-    }
-
-    // False: it was stopped before.
-    fn halt(&self) -> bool {
-        let did_run = self.is_running.swap(false, Ordering::SeqCst);
-        let _ = self.waker.wake();
-        did_run
+        self.sockets.runs()
     }
 
     /// Ends the server. The first reason stays.
     pub fn end<R: Wait>(&self, rt: &R, stop: Stop) {
         let mut first = self.stop.lock(rt);
-        *first = Stop::first(*first, stop, self.halt());
+        *first = Stop::first(*first, stop, self.sockets.end());
     }
 
     /// Why the server ended, unless it is done.
@@ -293,7 +246,7 @@ impl<C: Drop> Server<C> {
     fn publish(&self, generations: MutexGuard<'_, Generations<Inherited>>) {
         self.board.show(&generations);
         drop(generations);
-        let _ = self.waker.wake();
+        self.sockets.wake();
     }
 
     /// The generation to open now; each is returned once.
@@ -386,10 +339,6 @@ impl<C: Drop> Server<C> {
 
     /// The numbers of the server now.
     pub fn snapshot<R: Wait>(&self, rt: &R) -> Snapshot {
-        let (connections, closed) = {
-            let sockets = self.sockets.lock(rt);
-            (sockets.count(), sockets.closed())
-        };
         let is_ending = self.is_draining() || !self.runs();
         // (nobody takes these two locks the other way round)
         let generations = self.generations.lock(rt);
@@ -402,8 +351,8 @@ impl<C: Drop> Server<C> {
             serving: stats.look(newest),
             draining: stats.draining(&generations),
             draining_count: generations.drain_count(),
-            connections,
-            closed,
+            connections: self.sockets.count(),
+            closed: self.sockets.closed(),
             durations: *stats.durations(),
             is_ready: newest.is_some() && !is_ending,
             is_ending,

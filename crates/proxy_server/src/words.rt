@@ -7,7 +7,7 @@ ghost use Rattle.proxy_server.specs.Board.{IsAnew};
 ghost use Rattle.proxy_server.specs.Words.{AreShown, FitsWord, IsWord, code_of};
 
 use crate::server::Inherited;
-use proxy_generations::{Generations, Phase};
+use proxy_generations::{Generations, Phase, draining_are_older};
 
 /// The word that shows no generation.
 pub(crate) const NOBODY: u64 = 3;
@@ -117,6 +117,7 @@ pub(crate) fn anew(word: u64, generations: &Generations<Inherited>) -> u64
     ensures { (s : Settings) (es : List (Event Inherited)) → Stands generations.now s es
         → IsAnew word es result }
 {
+    draining_are_older::<Inherited>();
     let Some(shown) = unpack(word) else {
         return NOBODY;
     };

@@ -11,7 +11,7 @@ impl Worker<'_> {
         let server = self.generation.server();
         let mut cut = 0u32;
         for key in 0..self.connections.capacity() {
-            if self.close_client(rt, key) {
+            if self.close_client(key) {
                 cut = cut.saturating_add(1);
             }
         }
@@ -27,16 +27,13 @@ impl Worker<'_> {
     }
 
     // True: there was a client with this key, and its connection is cut short.
-    fn close_client<R: Wait>(&mut self, rt: &R, key: usize) -> bool {
+    fn close_client(&mut self, key: usize) -> bool {
         let Some(is_cut) = self.connections.shut_down(key) else {
             return false;
         };
-        let server = self.generation.server();
         if is_cut {
-            server.count_closed(rt);
+            self.generation.server().count_closed();
         }
-        server.count_dropped(rt);
-        self.generation.room.count_gone();
         is_cut
     }
 
@@ -51,7 +48,7 @@ impl Worker<'_> {
                 return;
             };
             self.connections.close_carried(carried);
-            server.count_closed_and_dropped(rt);
+            server.count_closed();
         }
     }
 }

@@ -1,8 +1,9 @@
 //! How a worker opens the sockets in its queue.
 
 use super::{MAX_EVENTS, Worker};
-use fresh_stream::FreshStream;
+use journal_room::OpenConnection;
 use mio::Token;
+use open_sockets::AdmittedStream;
 use proxy_connections::{CarriedSocket, Opened, StepError};
 use proxy_exit_status::Ending;
 use proxy_generations::Phase;
@@ -55,19 +56,11 @@ impl Worker<'_> {
             if !self.generation.server().has_waiting(rt, self.index()) {
                 return Ok(());
             }
-            self.generation.room.count_opened();
-            let opened = if self.borrow_to_open(rt) {
-                self.open_next(rt)?
-            } else {
-                None
+            let Ok(connection) = self.generation.room.count_opened() else {
+                return self.count_refusal();
             };
-            match opened {
-                Some(Opened::Kept) => {}
-                Some(Opened::Dropped) => self.generation.room.count_gone(),
-                None => {
-                    self.generation.room.count_gone();
-                    return Ok(());
-                }
+            if !self.borrow_to_open(rt) || self.open_next(rt, connection)?.is_none() {
+                return Ok(());
             }
         }
         self.may_have_sockets = true;
@@ -76,26 +69,30 @@ impl Worker<'_> {
 
     // Opens the first socket in the worker's queue, a carried-over one first. `None`: there is none, or it can't be opened
     // for now.
-    fn open_next<R: Wait>(&mut self, rt: &R) -> Result<Option<Opened>, Stop> {
+    fn open_next<R: Wait>(
+        &mut self,
+        rt: &R,
+        connection: OpenConnection,
+    ) -> Result<Option<Opened>, Stop> {
         let server = self.generation.server();
         if !self.connections.reserve_slot() {
             self.count_refusal()?;
             return Ok(None);
         }
         if let Some(carried) = server.take_carried(rt, self.index()) {
-            return self.open_carried(rt, carried);
+            return self.open_carried(rt, carried, connection);
         }
         match server.pop(rt, self.index()) {
-            Some(stream) => self.open(rt, stream),
+            Some(stream) => self.open(rt, stream, connection),
             None => Ok(None),
         }
     }
 
     // Without room for its client the socket is closed.
-    fn handle_opened<R: Wait>(&mut self, rt: &R, opened: Opened) -> Opened {
+    fn handle_opened(&mut self, opened: Opened) -> Opened {
         self.opening.succeeded();
         if let Opened::Dropped = opened {
-            self.generation.server().count_closed_and_dropped(rt);
+            self.generation.server().count_closed();
         }
         opened
     }
@@ -106,12 +103,16 @@ impl Worker<'_> {
         &mut self,
         rt: &R,
         carried: CarriedSocket,
+        connection: OpenConnection,
     ) -> Result<Option<Opened>, Stop> {
         let round = self
             .generation
             .round(self.poll.registry(), self.mode, self.now);
-        match self.connections.open_carried(rt, round, carried) {
-            Ok(opened) => Ok(Some(self.handle_opened(rt, opened))),
+        match self
+            .connections
+            .open_carried(rt, round, carried, connection)
+        {
+            Ok(opened) => Ok(Some(self.handle_opened(opened))),
             Err((error, carried)) => self.refuse_carried(rt, error, carried),
         }
     }
@@ -126,7 +127,7 @@ impl Worker<'_> {
         self.handle_open_error(error)?;
         if error.ends_one() {
             self.connections.close_carried(carried);
-            server.count_closed_and_dropped(rt);
+            server.count_closed();
             return Ok(Some(Opened::Dropped));
         }
         server.carry_back(rt, self.index(), carried);
@@ -134,19 +135,22 @@ impl Worker<'_> {
     }
 
     // A socket whose connection can't be opened is dropped.
-    fn open<R: Wait>(&mut self, rt: &R, mut stream: FreshStream) -> Result<Option<Opened>, Stop> {
+    fn open<R: Wait>(
+        &mut self,
+        rt: &R,
+        mut stream: AdmittedStream,
+        connection: OpenConnection,
+    ) -> Result<Option<Opened>, Stop> {
         let token = Token(self.connections.vacant_key());
         if stream.register(self.poll.registry(), token).is_err() {
-            self.generation.server().count_dropped(rt);
             return Ok(Some(Opened::Dropped));
         }
         let round = self
             .generation
             .round(self.poll.registry(), self.mode, self.now);
-        match self.connections.open(rt, round, stream) {
-            Ok(opened) => Ok(Some(self.handle_opened(rt, opened))),
+        match self.connections.open(rt, round, stream, connection) {
+            Ok(opened) => Ok(Some(self.handle_opened(opened))),
             Err(error) => {
-                self.generation.server().count_dropped(rt);
                 self.handle_open_error(error)?;
                 Ok(Some(Opened::Dropped))
             }

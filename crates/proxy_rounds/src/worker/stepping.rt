@@ -163,11 +163,8 @@ impl Worker<'_> {
         let round = self
             .generation
             .round(self.poll.registry(), self.mode, self.now);
-        match self.connections.carry(round, key) {
-            Some(carried) => server.carry(rt, self.index(), carried),
-            None => server.count_closed_and_dropped(rt),
-        }
-        self.generation.room.count_gone();
+        let carried = self.connections.carry(round, key);
+        server.carry(rt, self.index(), carried);
         Ok(Remaining::Nothing)
     }
 
@@ -185,7 +182,7 @@ impl Worker<'_> {
             return Ok(Remaining::Nothing);
         };
         if has_closed {
-            self.generation.server().count_closed(rt);
+            self.generation.server().count_closed();
         }
         self.handle_stepped(rt, key, stepped)
     }
@@ -203,8 +200,6 @@ impl Worker<'_> {
             Ok(Stepped::Ready) => Ok(Remaining::Work),
             Ok(Stepped::Closed) => {
                 self.connections.remove(self.generation.notices(), key);
-                self.generation.room.count_gone();
-                self.generation.server().count_dropped(rt);
                 Ok(Remaining::Nothing)
             }
             Ok(Stepped::CarriedOver) => self.carry_over(rt, key),

@@ -17,7 +17,7 @@ returns-in-Some-task c = λ s es st.
     let made = c.pack.result in
     let is : IsTask (Some task) es number = subst (λ o. IsTask o es number) c.in-Some-task.is (c.task.ensures s es st) in
     let word = c.in-Some.ensures.some in
-    let fits : FitsWord number task = (has_code es st.may number task is.0 is.1, omega (arith, c.ranges.word.fits, word.1)) in
+    let fits : FitsWord number task = (has_code c.draining_are_older.ensures es st.may number task is.0 is.1, omega (arith, c.ranges.word.fits, word.1)) in
     let shown : IsWord made number task = c.pack.ensures.shown fits in
     record {
       drains = λ n before t old now.

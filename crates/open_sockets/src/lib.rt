@@ -1,0 +1,10 @@
+//! The open sockets of clients, which can't be forgotten.
+//!
+//! A stream comes to a worker only as an [`AdmittedStream`], with an [`OpenSocket`] that is counted from `admit` until it is
+//! dropped. The last one of a drain ends the server. It stands on `fresh_stream` and `mio`. Begin with `open_sockets.rt`.
+#![tactic(auto)]
+
+mod open_sockets;
+mod sockets;
+
+pub use open_sockets::{AdmittedStream, OpenSocket, OpenSockets};
