@@ -147,7 +147,8 @@ impl Visitor {
     // Whether the visit is over after a round with this result.
     fn is_over(&mut self, moved: Moved, moment: u64) -> bool
         ensures over { IsTrue result ↔ IsOver moved (moment - self.old.moved) }
-        ensures moved { self.new ≡ record self.old { moved = moved_at moved self.old.moved moment } }
+        ensures moved { self.new
+            ≡ record self.old { moved = moved_at moved self.old.moved moment } }
     {
         match moved {
             Moved::Something => {

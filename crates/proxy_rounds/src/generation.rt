@@ -107,7 +107,8 @@ fn work_task<'a, R: Wait>(
     place: Place,
     poll: Poll,
 ) -> Result<Task<'a>, Ending>
-    ensures { IfOk result (λ task. (a : Assigned) × (a.place ≡ place) × (assigned_of task ≡ Some a)) }
+    ensures { IfOk result (λ task. (a : Assigned)
+        × (a.place ≡ place) × (assigned_of task ≡ Some a)) }
 {
     let seat = seats.take(rt)?;
     Ok(Task::Work(WorkerSetup::new(context, place, poll, seat)))

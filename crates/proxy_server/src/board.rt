@@ -1,91 +1,39 @@
 //! What each generation is to do, readable without a lock. Atomics carry here what `words.rt` and `seen.rt` decide.
 
+use crate::newest::Newest;
 use crate::seen::Seen;
 use crate::server::Inherited;
-use crate::words::{NOBODY, Shown, anew, free_place, pack, task_in};
-use limits::MAX_GENERATIONS;
+use crate::task_words::TaskWords;
 use proxy_generations::{Generations, Phase};
 use std::alloc::{AllocError, Global};
-use std::sync::atomic::{AtomicU64, Ordering};
 
-const NONE: u64 = u64::MAX;
-
-const MAX_DRAINING: usize = MAX_GENERATIONS - 1;
-
-/// The newest open generation, and a word of each that drains, which keeps its place until that has drained.
+/// The newest open generation, and the tasks of those that drain.
 #[derive(Drop)]
 pub(crate) struct Board {
-    newest: AtomicU64,
-    words: Vec<AtomicU64>,
+    newest: Newest,
+    tasks: TaskWords,
 }
 
 impl Board {
     pub(crate) fn new(alloc: Global) -> Result<Board, AllocError> {
-        let mut words = Vec::new(alloc);
-        for _ in 0..MAX_DRAINING {
-            words.push(AtomicU64::new(NOBODY))?;
-        }
         Ok(Board {
-            newest: AtomicU64::new(NONE),
-            words,
+            newest: Newest::new(),
+            tasks: TaskWords::new(alloc)?,
         })
     }
 
-    /// Shows what these generations are to do. The newest comes last: one that sees that it serves no longer finds its task.
+    /// Shows what these generations are to do. Who reads the newest one first, and then the tasks, sees a phase that there was.
     pub(crate) fn show(&self, generations: &Generations<Inherited>) {
-        for word in self.words.iter() {
-            word.store(
-                anew(word.load(Ordering::SeqCst), generations),
-                Ordering::SeqCst,
-            );
-        }
-        for index in 0..MAX_DRAINING {
-            if let Some(number) = generations.older_at(index) {
-                self.show_task(number, generations.task(number));
-            }
-        }
-        let newest = generations.newest().unwrap_or(NONE);
-        self.newest.store(newest, Ordering::SeqCst);
+        let newest = self.tasks.show(generations);
+        self.newest.show(newest);
     }
 
-    // (one that is shown already has its task)
-    fn show_task(&self, number: u64, task: Option<Phase>) {
-        let words = self.words();
-        if task_in(&words, number).is_some() {
-            return;
-        }
-        if let (Some(place), Some(task)) = (free_place(&words), task) {
-            if let Some(word) = self.words.get(place) {
-                word.store(pack(Shown { number, task }), Ordering::SeqCst);
-            }
-        }
-    }
-
-    fn words(&self) -> [u64; MAX_DRAINING] {
-        let mut words = [NOBODY; MAX_DRAINING];
-        for place in 0..MAX_DRAINING {
-            if let Some(word) = self.words.get(place) {
-                words[place] = word.load(Ordering::SeqCst);
-            }
-        }
-        words
-    }
-
-    // The number of the newest open generation.
-    fn newest(&self) -> Option<u64> {
-        match self.newest.load(Ordering::SeqCst) {
-            NONE => None,
-            number => Some(number),
-        }
-    }
-
-    // (the newest is read first, since it is shown last)
     fn seen(&self, number: u64) -> Seen {
-        let newest = self.newest();
+        let newest = self.newest.number();
         if newest == Some(number) {
             Seen::of_newest(number)
         } else {
-            Seen::new(number, newest, &self.words())
+            Seen::new(number, newest, &self.tasks.read())
         }
     }
 

@@ -8,11 +8,13 @@ mod living;
 mod log;
 mod look_sum;
 mod moment;
+mod newest;
 mod operating;
 mod seen;
 mod server;
 mod stats;
 mod stop;
+mod task_words;
 mod words;
 
 pub use log::{Level, Log};

@@ -16,7 +16,8 @@ pub(crate) fn no_look() -> Look
 
 /// The sum of both.
 pub(crate) fn both(one: &Look, other: &Look) -> Look
-    ensures { (all : List LookOf) → IsLookSum all one.now → IsLookSum (all ++ other.now ∷ []) result }
+    ensures { (all : List LookOf) → IsLookSum all one.now
+        → IsLookSum (all ++ other.now ∷ []) result }
 {
     Look {
         steps: one.steps.saturating_add(other.steps),

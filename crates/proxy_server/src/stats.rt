@@ -128,8 +128,9 @@ impl Stats {
     }
 
     pub(crate) fn draining(&self, generations: &Generations<Inherited>) -> Look
-        ensures { (s : Settings) (es : List (Event Inherited)) → Stands generations.now s es → IsLookSum
-            (map (λ l. l.look) (filter (λ l. is_draining es l.number) self.now.living.items)) result }
+        ensures { (s : Settings) (es : List (Event Inherited)) → Stands generations.now s es
+            → IsLookSum (map (λ l. l.look)
+            (filter (λ l. is_draining es l.number) self.now.living.items)) result }
     {
         living::draining(generations, self.living.as_slice())
     }

@@ -36,7 +36,8 @@ pub struct Stop {
 impl Stop {
     /// A socket, a poll or a stream failed.
     pub fn socket(what: &'static str, error: Error) -> Stop
-        ensures { result ≡ of_failure (record { what = what.entry; address = None; error = error }) }
+        ensures { result
+            ≡ of_failure (record { what = what.entry; address = None; error = error }) }
     {
         Stop {
             ending: Ending::Socket,
