@@ -93,12 +93,12 @@ left_comes due result old new (SocketStage.Lingering end until) closed is_due dr
 pub told_closed : (cause : Refusal → Event → List Step → Type 0) (x y : List Step) (old new : Client) (result : Result Progress EngineError)
     → TellsStep cause x y old new result → IfOk result (λ p. p ≡ Progress.Cut → new.stage ≡ Stage.Closed true) → TellsClosed new result
 told_closed cause x y old new (Ok p) tells cut = record {
-  ended = λ told. elim told [ | inl is ↦ rw (tells.ended is) refl | inr is ↦ rw (cut is) refl ];
+  ended = λ told. elim told [ inl is ↦ rw (tells.ended is) refl | inr is ↦ rw (cut is) refl ];
   failed = tt;
 }
 told_closed cause x y old new (Err e) tells cut = record {
   ended = tt;
-  failed = λ told. elim told [ | inl is ↦ rw ((tells.read_failed is).1) refl | inr is ↦ rw ((tells.write_failed is).1) refl ];
+  failed = λ told. elim told [ inl is ↦ rw ((tells.read_failed is).1) refl | inr is ↦ rw ((tells.write_failed is).1) refl ];
 }
 
 -- no command is accepted of a closed connection, and then no device fails
