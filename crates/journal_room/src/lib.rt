@@ -19,6 +19,7 @@ mod journal_room;
 mod laws;
 mod metered_turns;
 mod turn_step;
+mod unfinished_sum;
 
 pub use journal_budget::TurnCounts;
 pub use journal_room::JournalRoom;
