@@ -7,9 +7,9 @@ use Rattle.journal_budget.specs.declared.turn_counts.TurnCounts.{TurnCounts}
 use Rattle.journal_budget.specs.declared.payload_counts.PayloadCounts.{PayloadCounts}
 use Rattle.journal_budget.specs.Steps.{cost_of}
 use Rattle.journal_budget.specs.Budget.{LoanState, capped, no_loan, loan_after, settled}
-use Rattle.journal_budget.specs.Payload.{PayloadState, no_payload}
-use Rattle.journal_budget.specs.Reported.{ReportedState}
-use Rattle.journal_budget.specs.Ledger.{LedgerState}
+use Rattle.journal_budget.specs.Payload.{PayloadState}
+use Rattle.journal_budget.specs.Reported.{ReportedState, reported_of}
+use Rattle.journal_budget.specs.Ledger.{LedgerState, empty_ledger}
 use Rattle.journal_budget.specs.Counts.{no_counts, counted, no_bytes, plus, with_bytes}
 
 -- What happened, the steps lent, the steps since the last settlement and their cost, the bytes since the last report, and what
@@ -32,7 +32,7 @@ no_account = record {
   steps = 0;
   cost = 0;
   bytes = no_bytes;
-  reported = record { payload = no_payload 0; owed = 0 };
+  reported = reported_of 0 0 empty_ledger;
 }
 
 -- an account once a step of this kind was made
@@ -52,23 +52,25 @@ stepped_with kind bytes a = record (stepped kind a) { bytes = plus a.bytes bytes
 
 -- the ledger once the worker has reported its payload
 abbrev pub with_payload : AccountState → LedgerState → LedgerState
-with_payload a l = record l { payload = with_bytes a.bytes l.payload }
+with_payload a l = record l { bytes = plus l.bytes a.bytes }
 
 -- the ledger once it has settled: its steps, its loan and its payload are reported
 abbrev pub with_account : AccountState → LedgerState → LedgerState
 with_account a l = record (with_payload a l) { budget = settled MAX_STEPS a.loan l.budget; steps = capped (l.steps + a.steps) }
 
--- an account once its payload was reported to this ledger, while so many owed steps have payload
-abbrev pub reported_to : LedgerState → ℕ → AccountState → AccountState
-reported_to l owed a = record a { bytes = no_bytes; reported = record { payload = l.payload; owed = owed } }
+-- an account once its payload was reported to this ledger, of a generation that began with this average of payload bytes a step,
+-- while so many owed steps have payload
+abbrev pub reported_to : LedgerState → ℕ → ℕ → AccountState → AccountState
+reported_to l average owed a = record a { bytes = no_bytes; reported = reported_of average owed l }
 
 -- the owed steps of a ledger that have payload, with so many open connections: what one owes for its end has none
 abbrev pub owed_with_payload : ℕ → LedgerState → ℕ
 owed_with_payload connections l = l.budget.spent - l.steps - capped (connections * capped (cost_of kinds.Opened))
 
--- an account once it was settled with this ledger, with so many open connections
-abbrev pub settled_with : LedgerState → ℕ → AccountState → AccountState
-settled_with l connections a = record (reported_to l (owed_with_payload connections l) a) { loan = no_loan; steps = 0; cost = 0 }
+-- an account once it was settled with this ledger, of a generation that began with this average, with so many open connections
+abbrev pub settled_with : LedgerState → ℕ → ℕ → AccountState → AccountState
+settled_with l average connections a =
+    record (reported_to l average (owed_with_payload connections l) a) { loan = no_loan; steps = 0; cost = 0 }
 
 -- the journal's payload as far as the worker knows: what all had reported when it last looked, and its own since
 abbrev pub known : AccountState → PayloadState

@@ -1,18 +1,30 @@
 -- What contracts see of the ledger of a journal.
 use Rattle.std.specs.Prelude.{◌+◌, ◌-◌, ℕ}
+use Rattle.limits.specs.declared.journals.TheConstants.{MAX_STEPS}
+use Rattle.journal_budget.specs.declared.payload_counts.PayloadCounts.{PayloadCounts}
 use Rattle.journal_budget.specs.Budget.{BudgetState, capped, no_budget}
 use Rattle.journal_budget.specs.Payload.{PayloadState, no_payload}
+use Rattle.journal_budget.specs.Counts.{no_bytes, with_bytes}
 
--- the budget, the payload, the bytes of large replies that are coming, and the steps that were made
+-- the budget, the bytes of payload that the workers have reported, the bytes of large replies that are coming, and the steps that
+-- were made
 pub record LedgerState : Type 0 where
   pub budget : BudgetState
-  pub payload : PayloadState
+  pub bytes : PayloadCounts
   pub coming : ℕ
   pub steps : ℕ
 
--- the ledger of an empty journal, whose generation begins with this average of payload bytes a step
-abbrev pub empty_ledger : ℕ → LedgerState
-empty_ledger average = record { budget = no_budget; payload = no_payload average; coming = 0; steps = 0 }
+-- the ledger of an empty journal
+abbrev pub empty_ledger : LedgerState
+empty_ledger = record { budget = no_budget; bytes = no_bytes; coming = 0; steps = 0 }
+
+-- the steps of a journal that are neither spent nor lent
+abbrev pub left_of : LedgerState → ℕ
+left_of l = MAX_STEPS - l.budget.spent - l.budget.lent
+
+-- the payload of a journal whose generation began with this average of payload bytes a step
+abbrev pub payload_in : ℕ → LedgerState → PayloadState
+payload_in average l = with_bytes l.bytes (no_payload average)
 
 -- a ledger once a worker has reported so many steps
 abbrev pub with_steps : ℕ → LedgerState → LedgerState

@@ -2,8 +2,8 @@ pub mod Steps
 pub mod Budget
 pub mod BudgetLaws
 pub mod Payload
-pub mod Reported
-pub mod Ledger
 pub mod Counts
+pub mod Ledger
+pub mod Reported
 pub mod Account
 pub mod PayloadLaws

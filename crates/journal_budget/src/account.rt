@@ -42,6 +42,7 @@ impl Model for Account {
 impl Account {
     ghost use Rattle.limits.specs.declared.journals.TheConstants.{MAX_STEPS};
     ghost use Rattle.journal_budget.specs.Account.{no_account, stepped_with, with_payload, with_account, reported_to, settled_with, known, owed_steps};
+    ghost use Rattle.journal_budget.specs.Ledger.{with_coming};
     ghost use Rattle.journal_budget.specs.Budget.{free_steps, borrowed, lent_more};
     ghost use Rattle.journal_budget.specs.Counts.{no_counts};
     ghost use Rattle.journal_budget.specs.Payload.{average_of, HasRoomForCommand, HasRoomForReply};
@@ -56,7 +57,7 @@ impl Account {
             steps: 0,
             cost: 0,
             bytes: PayloadCounts::NONE,
-            reported: Reported::new(Payload::new(0), 0),
+            reported: Reported::new(&Ledger::new(), 0, 0),
         }
     }
 
@@ -113,9 +114,10 @@ impl Account {
         is_lent
     }
 
-    /// Reports steps and payload, and returns unspent steps, while this many connections are open.
-    pub fn settle(&mut self, ledger: &mut Ledger, connections: u64)
-        ensures account { self.new ≡ settled_with ledger.new connections self.old }
+    /// Reports steps and payload, and returns unspent steps, while this many connections are open. The last generation
+    /// had `average` payload bytes a step.
+    pub fn settle(&mut self, ledger: &mut Ledger, average: u64, connections: u64)
+        ensures account { self.new ≡ settled_with ledger.new average connections self.old }
         ensures ledger { ledger.new ≡ with_account self.old ledger.old }
     {
         ledger.budget.settle(&mut self.loan);
@@ -124,25 +126,38 @@ impl Account {
         ledger.note_steps(steps);
         // (what a connection owes for its end has no payload)
         let ends = connections.saturating_mul(StepKind::Opened.cost());
-        self.report(ledger, ledger.owed().saturating_sub(ends));
+        self.report(ledger, average, ledger.owed().saturating_sub(ends));
     }
 
-    /// Reports payload, and reads what all workers have reported.
-    pub fn report_payload(&mut self, ledger: &mut Ledger)
-        ensures account { self.new ≡ reported_to ledger.new self.old.reported.owed self.old }
-        ensures ledger { ledger.new ≡ with_payload self.old ledger.old }
+    /// Reports payload, with a large reply of which `came` bytes have come, and `reported` at its last report. Whether
+    /// there is room for it beside all others that are coming.
+    pub fn report_reply(
+        &mut self,
+        ledger: &mut Ledger,
+        average: u64,
+        came: u64,
+        reported: &mut u64,
+    ) -> bool
+        ensures account { self.new ≡ reported_to (with_payload self.old ledger.old)
+            average self.old.reported.owed self.old }
+        ensures ledger { ledger.new
+            ≡ with_coming came reported.old (with_payload self.old ledger.old) }
+        ensures reported { reported.new ≡ came }
+        ensures room { IsTrue result ↔ HasRoomForReply (known self.new) ledger.new.coming }
     {
         let owed = self.reported.owed();
-        self.report(ledger, owed);
+        self.report(ledger, average, owed);
+        ledger.note_coming(came, mem::replace(reported, came));
+        self.known().takes_reply(ledger.coming())
     }
 
-    fn report(&mut self, ledger: &mut Ledger, owed: u64)
-        ensures account { self.new ≡ reported_to ledger.new owed self.old }
+    fn report(&mut self, ledger: &mut Ledger, average: u64, owed: u64)
+        ensures account { self.new ≡ reported_to ledger.new average owed self.old }
         ensures ledger { ledger.new ≡ with_payload self.old ledger.old }
     {
         let bytes = mem::replace(&mut self.bytes, PayloadCounts::NONE);
-        bytes.add_to(&mut ledger.payload);
-        self.reported = Reported::new(ledger.payload, owed);
+        ledger.bytes.add(bytes);
+        self.reported = Reported::new(ledger, average, owed);
     }
 
     /// The average payload bytes a step, from all workers' reports.

@@ -2,13 +2,14 @@ ghost use Rattle.std.specs.Prelude.{◌≡◌, ◌↔◌, ◌≤◌, ◌+◌, �
 
 use crate::budget::Budget;
 use crate::payload::Payload;
+use crate::payload_counts::PayloadCounts;
 use std::marker::Model;
 
 /// What the workers of a generation have reported of its journal.
 #[derive(Drop)]
 pub struct Ledger {
     pub(crate) budget: Budget,
-    pub(crate) payload: Payload,
+    pub(crate) bytes: PayloadCounts,
     // Bytes of large replies that are coming.
     coming: u64,
     steps: u64,
@@ -21,7 +22,7 @@ impl Model for Ledger {
 
     ghost view = { λ l. record {
       budget = l.budget;
-      payload = l.payload;
+      bytes = l.bytes;
       coming = l.coming;
       steps = l.steps;
     } };
@@ -29,16 +30,16 @@ impl Model for Ledger {
 
 impl Ledger {
     ghost use Rattle.limits.specs.declared.journals.TheConstants.{MAX_STEPS};
-    ghost use Rattle.journal_budget.specs.Ledger.{empty_ledger, with_steps, with_coming};
-    ghost use Rattle.journal_budget.specs.Payload.{next_average_of, HasRoomForReply};
+    ghost use Rattle.journal_budget.specs.Ledger.{empty_ledger, left_of, payload_in, with_steps, with_coming};
+    ghost use Rattle.journal_budget.specs.Payload.{next_average_of};
 
-    /// An empty ledger. `average` is the last generation's payload bytes a step, 0 for the first one.
-    pub fn new(average: u64) -> Ledger
-        ensures { result ≡ empty_ledger average }
+    /// The ledger of an empty journal.
+    pub fn new() -> Ledger
+        ensures { result ≡ empty_ledger }
     {
         Ledger {
             budget: Budget::new(),
-            payload: Payload::new(average),
+            bytes: PayloadCounts::NONE,
             coming: 0,
             steps: 0,
         }
@@ -50,14 +51,19 @@ impl Ledger {
         self.steps = self.steps.saturating_add(steps);
     }
 
-    /// Whether there is room for a reply beside all others that are coming. `came` of its bytes have come, `before`
-    /// at the last report.
-    pub fn takes_reply(&mut self, came: u64, before: u64) -> bool
-        ensures coming { self.new ≡ with_coming came before self.old }
-        ensures room { IsTrue result ↔ HasRoomForReply self.old.payload self.new.coming }
+    /// Counts a large reply beside all others that are coming. `came` of its bytes have come, `before` at the last
+    /// report.
+    pub(crate) fn note_coming(&mut self, came: u64, before: u64)
+        ensures { self.new ≡ with_coming came before self.old }
     {
         self.coming = self.coming.saturating_sub(before).saturating_add(came);
-        self.payload.takes_reply(self.coming)
+    }
+
+    /// Bytes of large replies that are coming.
+    pub(crate) fn coming(&self) -> u64
+        ensures { result ≡ self.now.coming }
+    {
+        self.coming
     }
 
     /// The steps made or owed.
@@ -68,11 +74,27 @@ impl Ledger {
         self.budget.spent()
     }
 
-    /// The payload bytes a step that the next generation starts with.
-    pub fn next_average(&self) -> u64
-        ensures { result ≡ next_average_of self.now.payload }
+    /// The steps that may still be lent.
+    pub(crate) fn left(&self) -> u64
+        ensures { result ≡ left_of self.now }
     {
-        self.payload.next_average()
+        self.budget.left()
+    }
+
+    /// The journal's payload, by the last generation's payload bytes a step.
+    pub(crate) fn payload(&self, average: u64) -> Payload
+        ensures { result ≡ payload_in average self.now }
+    {
+        let mut payload = Payload::new(average);
+        self.bytes.add_to(&mut payload);
+        payload
+    }
+
+    /// The payload bytes a step that the next generation starts with, where this one started with `average`.
+    pub fn next_average(&self, average: u64) -> u64
+        ensures { result ≡ next_average_of (payload_in average self.now) }
+    {
+        self.payload(average).next_average()
     }
 
     pub(crate) fn owed(&self) -> u64

@@ -1,7 +1,8 @@
 ghost use Rattle.std.specs.Prelude.{◌≡◌, IsTrue};
 ghost use Rattle.journal_budget.specs.Payload.{average_of, IsFarFromFull};
-ghost use Rattle.journal_budget.specs.Reported.{IsInRange};
+ghost use Rattle.journal_budget.specs.Reported.{IsInRange, reported_of};
 
+use crate::ledger::Ledger;
 use crate::payload::Payload;
 use std::marker::Model;
 
@@ -11,6 +12,10 @@ pub(crate) struct Reported {
     payload: Payload,
     // The owed steps that have payload.
     owed: u64,
+    // The steps left to lend.
+    left: u64,
+    // The bytes of large replies that are coming.
+    coming: u64,
     average: u64,
     is_far: bool,
 }
@@ -20,21 +25,29 @@ impl Model for Reported {
 
     ghost Value = { ReportedState };
 
-    ghost view = { λ r. record { payload = r.payload; owed = r.owed } };
+    ghost view = { λ r. record {
+      payload = r.payload;
+      owed = r.owed;
+      left = r.left;
+      coming = r.coming;
+    } };
 
     ghost invariant = { λ r. IsReported r.payload r.owed r.average r.is_far };
 }
 
 impl Reported {
-    pub(crate) fn new(payload: Payload, owed: u64) -> Reported
-        requires { IsInRange payload }
-        ensures { result ≡ record { payload = payload; owed = owed } }
+    /// What a ledger says. The last generation had `average` payload bytes a step, and `owed` steps have payload.
+    pub(crate) fn new(ledger: &Ledger, average: u64, owed: u64) -> Reported
+        ensures { result ≡ reported_of average owed ledger.now }
     {
+        let payload = ledger.payload(average);
         let average = payload.average();
         let is_far = payload.is_far_from_full(owed);
         Reported {
             payload,
             owed,
+            left: ledger.left(),
+            coming: ledger.coming(),
             average,
             is_far,
         }

@@ -1,4 +1,4 @@
-ghost use Rattle.std.specs.Prelude.{◌≡◌, ◌↔◌, ◌≤◌, ◌<◌, ◌+◌, ◌⊎◌, max, IsTrue};
+ghost use Rattle.std.specs.Prelude.{◌≡◌, ◌↔◌, ◌≤◌, ◌<◌, ◌+◌, ◌-◌, ◌/◌, ◌⊎◌, max, IfOk, IsTrue};
 ghost use Rattle.std.specs.Bool.{OnTrue, OnFalse};
 ghost use Rattle.limits.specs.declared.journals.TheConstants.{MAX_COMMAND_STEPS};
 ghost use Rattle.journal_budget.specs.Account.{known, owed_steps};
@@ -9,12 +9,12 @@ ghost use Rattle.journal_room.specs.declared.journal_room.TheConstants.{LARGE, L
 
 use crate::metered_turns::{HeldTurns, MeteredTurns};
 use crate::open_connections::{OpenConnection, OpenConnections};
+use crate::unfinished_sum::UnfinishedSum;
 use crossbeam_utils::CachePadded;
 use journal_budget::Ledger;
 use limits::{MAX_COMMAND_STEPS, MAX_UNFINISHED};
 use std::alloc::{AllocError, Global};
-use std::mem;
-use std::sync::atomic::{AtomicBool, AtomicU64, Ordering};
+use std::sync::atomic::{AtomicBool, Ordering};
 use std::sync::{Mutex, Wait};
 
 // Payload of this many bytes is reported before room is decided.
@@ -30,17 +30,20 @@ const MAX_LENT: u64 = 65_536;
 /// waits for it.
 pub struct JournalRoom {
     workers: u64,
+    // The last generation's payload bytes a step.
+    average: u64,
     open: OpenConnections,
     ledger: CachePadded<Mutex<Ledger>>,
     // No further commands are accepted, so that accepted ones can be answered before the journal is full.
     is_full: AtomicBool,
-    unfinished: CachePadded<AtomicU64>,
+    unfinished: CachePadded<UnfinishedSum>,
 }
 
 impl Drop for JournalRoom {
     fn drop(self) {
         let JournalRoom {
             workers: _,
+            average: _,
             open: _,
             ledger: _,
             is_full: _,
@@ -51,22 +54,30 @@ impl Drop for JournalRoom {
 
 impl JournalRoom {
     /// The room in an empty journal. `average` is the last generation's payload bytes a step. Refused for want of memory.
-    pub fn new(alloc: Global, workers: u64, average: u64) -> Result<JournalRoom, AllocError> {
+    pub fn new(alloc: Global, workers: u64, average: u64) -> Result<JournalRoom, AllocError>
+        ensures workers { IfOk result (λ room. room.workers ≡ workers) }
+        ensures average { IfOk result (λ room. room.average ≡ average) }
+    {
         Ok(JournalRoom {
             workers,
+            average,
             open: OpenConnections::new(alloc)?,
-            ledger: CachePadded::new(Mutex::new(Ledger::new(average))),
+            ledger: CachePadded::new(Mutex::new(Ledger::new())),
             is_full: AtomicBool::new(false),
-            unfinished: CachePadded::new(AtomicU64::new(0)),
+            unfinished: CachePadded::new(UnfinishedSum::new()),
         })
     }
 
-    /// Reports the worker's turns, takes back unspent steps, and lends this reserve again. The turns leave the gate.
+    /// Reports the worker's turns, takes back unspent steps, and lends this reserve again, if so many steps are left. The
+    /// turns leave the gate.
     pub fn settle<R: Wait, T: HeldTurns>(&self, rt: &R, turns: &mut MeteredTurns<T>, reserve: u64)
         ensures turns { turns.new.turns ≡ turns.old.turns }
         ensures counts { turns.new.account.counts ≡ turns.old.account.counts }
-        ensures loan { (turns.new.account.loan ≡ no_loan)
-            ⊎ (turns.new.account.loan ≡ borrowed reserve no_loan) }
+        ensures lent { reserve ≤ turns.new.account.reported.left
+            → turns.new.account.loan ≡ borrowed reserve no_loan }
+        ensures too_few { turns.new.account.reported.left < reserve
+            → turns.new.account.loan ≡ no_loan }
+        ensures average { turns.new.account.reported.payload.before ≡ self.now.average }
         ensures reported { (turns.new.account.bytes ≡ no_bytes)
             × (turns.new.account.steps ≡ 0) × (turns.new.account.cost ≡ 0) }
     {
@@ -74,7 +85,7 @@ impl JournalRoom {
         let mut ledger = self.ledger.lock(rt);
         let ledger = &mut *ledger;
         let open = self.open.count();
-        turns.account.settle(ledger, open);
+        turns.account.settle(ledger, self.average, open);
         turns.account.borrow_steps(ledger, reserve);
     }
 
@@ -165,6 +176,11 @@ impl JournalRoom {
         ensures counts { turns.new.account.counts ≡ turns.old.account.counts }
         ensures loan { turns.new.account.loan ≡ turns.old.account.loan }
         ensures room { IsTrue result → HasRoomForReply (known turns.new.account) came }
+        ensures beside { LARGE ≤ max (max came reported.old) turns.old.account.bytes.kept
+            → (IsTrue result ↔ HasRoomForReply (known turns.new.account)
+            (capped (turns.new.account.reported.coming - reported.old + came))) }
+        ensures average { LARGE ≤ max (max came reported.old) turns.old.account.bytes.kept
+            → turns.new.account.reported.payload.before ≡ self.now.average }
         ensures small { max (max came reported.old) turns.old.account.bytes.kept < LARGE
             → (turns.new ≡ turns.old) × (reported.new ≡ reported.old)
             × (IsTrue result ↔ HasRoomForReply (known turns.old.account) came) }
@@ -177,9 +193,9 @@ impl JournalRoom {
         turns.leave();
         let mut ledger = self.ledger.lock(rt);
         let ledger = &mut *ledger;
-        turns.account.report_payload(ledger);
-        let before = mem::replace(reported, came);
-        ledger.takes_reply(came, before)
+        turns
+            .account
+            .report_reply(ledger, self.average, came, reported)
     }
 
     /// The steps made or owed, by the workers' reports.
@@ -187,9 +203,11 @@ impl JournalRoom {
         self.ledger.lock(rt).spent()
     }
 
-    /// The payload bytes a step that the next generation starts with.
-    pub fn average<R: Wait>(&self, rt: &R) -> u64 {
-        self.ledger.lock(rt).next_average()
+    /// The payload bytes a step that the next generation starts with: at least half of what this one started with.
+    pub fn average<R: Wait>(&self, rt: &R) -> u64
+        ensures { self.now.average / 2 ≤ result }
+    {
+        self.ledger.lock(rt).next_average(self.average)
     }
 
     /// Whether no further commands are accepted.
@@ -214,15 +232,11 @@ impl JournalRoom {
 
     /// Changes the bytes of a connection's unfinished command.
     pub fn note_unfinished(&self, now: u64, before: u64) {
-        if now > before {
-            self.unfinished.fetch_add(now - before, Ordering::SeqCst);
-        } else if now < before {
-            self.unfinished.fetch_sub(before - now, Ordering::SeqCst);
-        }
+        self.unfinished.change(now, before);
     }
 
     /// Whether the unfinished commands of all connections have more than `MAX_UNFINISHED` bytes.
     pub fn is_overfull(&self) -> bool {
-        self.unfinished.load(Ordering::SeqCst) > MAX_UNFINISHED
+        self.unfinished.is_more_than(MAX_UNFINISHED)
     }
 }

@@ -20,6 +20,7 @@ mod laws;
 mod metered_turns;
 mod open_connections;
 mod turn_step;
+mod unfinished_sum;
 
 pub use journal_budget::TurnCounts;
 pub use journal_room::JournalRoom;

@@ -626,7 +626,7 @@ impl ClientConnection {
         ensures turns { turns.new.turns ≡ turns.old.turns }
         ensures room { (self.new.engine.is_drained ≡ true)
             ⊎ (room_for.old ≡ Some turns.old.account.counts.accepted)
-            ⊎ HasRoom turns.new.account round.reserve self.old.unfinished }
+            ⊎ HasRoom turns.new.account round.entry.reserve self.old.unfinished }
     {
         if self.engine.is_drained() || *room_for == Some(turns.counts().accepted) {
             return;

@@ -585,7 +585,7 @@ impl HostConnection {
 // Whether waiting parts are given up for want of a link: no link is made any more, or a fault of it couldn't be recorded.
 fn makes_no_link<T: HeldTurns>(turns: &MeteredTurns<T>, round: HostRound<'_>) -> bool
     ensures { IsTrue result
-        ↔ IsTrue round.gives_up ⊎ (free_steps turns.now.account.loan ≡ 0) }
+        ↔ IsTrue round.entry.gives_up ⊎ (free_steps turns.now.account.loan ≡ 0) }
 {
     round.gives_up || turns.free_steps() == 0
 }
