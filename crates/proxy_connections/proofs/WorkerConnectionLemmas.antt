@@ -1,5 +1,6 @@
 -- A worker's clients and hosts stay served, and what a call changes of them.
-use Rattle.std.proofs.Common.{◌≡◌, ◌≢◌, ◌∙◌, ◌<◌, ℕ, List, [], ◌∷◌, ◌++◌, ◌+◌, Some, None, ap, arith, get_or, inl, inr, length, refl, set, suc, sym, true, zero}
+use Rattle.std.specs.Prelude.{IfOk}
+use Rattle.std.proofs.Common.{◌≡◌, ◌≢◌, ◌∙◌, ◌<◌, ℕ, List, [], ◌∷◌, ◌++◌, ◌+◌, Some, None, ap, arith, get_or, inl, inr, length, refl, set, subst, suc, sym, true, zero, Option, Result, Ok, Err}
 use Rattle.std.proofs.lemmas.Bool.{cases_eq}
 use Rattle.std.proofs.lemmas.List.{get_or-set_same, get_or-set_other, get_or_append_left, length-append, length-set, map-append}
 use Rattle.std.proofs.Math.Seq.{get_or-append_seam}
@@ -17,12 +18,18 @@ use Rattle.proxy_config.specs.declared.config.Host.{Host}
 use Rattle.proxy_notices.specs.Places.{IsOf}
 use Rattle.proxy_notices.specs.declared.place.Place.{Place}
 use Rattle.proxy_connections.specs.Places.{KeepsToPlace}
-use Rattle.proxy_connections.specs.Stages.{PassesOn}
+use Rattle.proxy_connections.specs.Stages.{HasPassedAll, MayGoOver, PassesOn, is_lingering}
 use Rattle.proxy_connections.proofs.StageLemmas.{KeepsSocket-passes_on}
 use Rattle.proxy_connections.proofs.PlaceLemmas.{hosts_of-skip, hosts_of-take, keeps_of_connection, keeps_of_host}
-use Rattle.proxy_connections.specs.WorkerConnections.{AddsClient, CarriesLink, IsAddressed, ChangesClient, ChangesHost, WorkerConnectionsState, IsAt, IsNewcomer, IsServing, KeepsClients, RiseTo, ServesClients, ServesHosts, number_of}
+use Rattle.proxy_connections.specs.WorkerConnections.{AddsClient, CarriesLink, IsAddressed, ChangesClient, ChangesHost, WorkerConnectionsState, IsAt, IsNewcomer, IsServing, KeepsClients, LetsGo, RiseTo, ServesClients, ServesHosts, number_of}
 use Rattle.proxy_connections.specs.declared.client_connection.ClientConnection.{ClientConnection}
+use Rattle.proxy_connections.specs.declared.client_connection.Stepped.{Stepped}
+use Rattle.proxy_connections.specs.declared.step_error.StepError.{StepError}
 use Rattle.proxy_connections.specs.declared.host_connection.HostConnection.{HostConnection}
+
+-- where a client may go over, the one of the same place may
+pub may_go_over : (o : Option ClientConnection) (one two : ClientConnection) → o ≡ Some one → o ≡ Some two → MayGoOver two.engine → MayGoOver one.engine
+may_go_over o one two is also may = let same : two ≡ one = cc in subst (λ (c : ClientConnection). MayGoOver c.engine) same may
 
 -- STEPS OF OTHERS
 
@@ -286,6 +293,23 @@ module _ {place : Place} {settings : List Host} (clients : Slab ClientConnection
   pub serves_stepped : KeepsSocket one.engine two.engine H H' → IsServing place settings (with_value clients key two) hosts H'
   serves_stepped keeps = serves_client clients (with_value clients key two) hosts key one two H H' updates_at stands keeps s
 
+-- one client stands at a key
+one_at : (clients : Slab ClientConnection) (key : ℕ) (one two : ClientConnection) → IsAt clients key one → IsAt clients key two → one ≡ two
+one_at clients key one two first second = cc
+
+-- what a round says of the client at a key holds once that stands there
+pub lets_go : (clients : Slab ClientConnection) (key : ℕ) (one two : ClientConnection) → IsAt clients key one → (r : Result Stepped StepError)
+    → (r ≡ Ok Stepped.Closed → (is_lingering two.stage ≡ true) × HasPassedAll two.engine.outbox)
+    → (r ≡ Ok Stepped.CarriedOver → MayGoOver two.engine) → IfOk r (λ s. LetsGo s (with_value clients key two) key)
+lets_go clients key one two stands (Ok Stepped.Idle) closed carried = tt
+lets_go clients key one two stands (Ok Stepped.Ready) closed carried = tt
+lets_go clients key one two stands (Ok Stepped.Closed) closed carried = λ client there.
+    let same : two ≡ client = one_at (with_value clients key two) key two client ((Updates-with_value clients key two (rw stands refl)).changed) there in
+    subst (λ (c : ClientConnection). (is_lingering c.stage ≡ true) × HasPassedAll c.engine.outbox) same (closed refl)
+lets_go clients key one two stands (Ok Stepped.CarriedOver) closed carried =
+    (two, (Updates-with_value clients key two (rw stands refl)).changed, carried refl)
+lets_go clients key one two stands (Err e) closed carried = tt
+
 -- the engine of the client at a key is as it was
 pub serves_same : {place : Place} → {settings : List Host} → (clients : Slab ClientConnection) (hosts : List HostConnection) (key : ℕ) (one two : ClientConnection) (H : History) → IsAt clients key one
     → two.engine ≡ one.engine → IsServing place settings clients hosts H → IsServing place settings (with_value clients key two) hosts H
@@ -429,9 +453,6 @@ abbrev pub state_of : Place → List Host → Slab ClientConnection → List Hos
 state_of place settings clients hosts H = record { place = place; settings = settings; clients = clients; hosts = hosts; steps = H }
 
 -- a client has a key once
-one_at : (clients : Slab ClientConnection) (key : ℕ) (one two : ClientConnection) → IsAt clients key one → IsAt clients key two → one ≡ two
-one_at clients key one two first second = cc
-
 none_at : (clients : Slab ClientConnection) (key : ℕ) (one : ClientConnection) → get clients key ≡ None → IsAt clients key one → ⊥
 none_at clients key one none there = absurd cc
 

@@ -132,6 +132,10 @@ pub record AddsClient (old new : WorkerConnectionsState) : Type 0 where
   pub alone : connection_steps conn later ≡ later
   pub fresh : later ≢ [] → connection_steps conn old.steps ≡ []
 
+-- a client has come, under the key that was the next one
+abbrev pub HasNewClient : WorkerConnectionsState → WorkerConnectionsState → Type 0
+HasNewClient old new = (client : ClientConnection) × IsAt new.clients old.clients.vacant_key client
+
 -- the client at this key, if there is one, is gone, and nothing else has changed
 pub record RemovesClient (key : ℕ) (old new : WorkerConnectionsState) : Type 0 where
   pub place : new.place ≡ old.place

@@ -560,7 +560,7 @@ impl ClientConnection {
             (T.facts turns.new.turns).seen) self.new.engine) }
     {
         self.drain_unless_room(rt, turns, round, &mut intake.room_for);
-        let stepped = self.accept_or_step(rt, turns, &mut intake.searched);
+        let stepped = self.accept_or_step(rt, turns, intake);
         self.handle_stepped(stepped, round.room)
     }
 
@@ -568,9 +568,11 @@ impl ClientConnection {
         &mut self,
         rt: &R,
         turns: &mut MeteredTurns<T>,
-        searched: &mut Option<u64>,
+        intake: &mut Intake,
     ) -> Result<Progress, EngineError>
-        requires { self.old.stage ≡ SocketStage.Served }
+        requires served { self.old.stage ≡ SocketStage.Served }
+        requires room { (self.old.engine.is_drained ≡ true)
+            ⊎ (intake.old.room_for ≡ Some turns.old.account.counts.accepted) }
         ensures keeps { KeepsSocket self.old.engine self.new.engine
             (own_history (T.facts turns.old.turns))
             (own_history (T.facts turns.new.turns)) }
@@ -581,12 +583,12 @@ impl ClientConnection {
     {
         turns.hold();
         let count = self.engine.reader().count();
-        if *searched == Some(count) {
+        if intake.searched == Some(count) {
             return self.step_once(rt, turns);
         }
         match self.engine.accept(rt, turns) {
             Ok(Progress::Idle) => {
-                *searched = Some(count);
+                intake.searched = Some(count);
                 self.step_once(rt, turns)
             }
             accepted => accepted,
@@ -627,6 +629,8 @@ impl ClientConnection {
         ensures room { (self.new.engine.is_drained ≡ true)
             ⊎ (room_for.old ≡ Some turns.old.account.counts.accepted)
             ⊎ HasRoom turns.new.account round.entry.reserve self.old.unfinished }
+        ensures looked { (self.new.engine.is_drained ≡ true)
+            ⊎ (room_for.new ≡ Some turns.new.account.counts.accepted) }
     {
         if self.engine.is_drained() || *room_for == Some(turns.counts().accepted) {
             return;

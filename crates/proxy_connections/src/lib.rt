@@ -23,4 +23,4 @@ pub use host_connection::HostStepped;
 pub use laws::{assigned_hosts_have_one_pass, hosts_have_their_workers, passes_share_no_host};
 pub use round::Round;
 pub use step_error::StepError;
-pub use worker_connections::{ClientResult, HOSTS, HostResult, Opened, WorkerConnections};
+pub use worker_connections::{ClientResult, HOSTS, HostResult, WorkerConnections};

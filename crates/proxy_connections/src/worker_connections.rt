@@ -1,7 +1,9 @@
 //! The clients and hosts of a worker, and the turns by which these are stepped.
+ghost use Rattle.std.specs.Bool.{OnTrue};
 ghost use Rattle.std.specs.Prelude.{◌≡◌, ◌<◌, ◌+◌, [], IfOk, IfSome, None, OnOk, length, map};
+ghost use Rattle.slab.specs.Slab.{HasRoomFor};
 ghost use Rattle.proxy_notices.specs.Places.{hosts_of};
-ghost use Rattle.proxy_connections.specs.WorkerConnections.{AddsClient, ChangesClient, ChangesHost, IsNewcomer, KeepsClients, LetsGo, MakesRoom, MayCarry, MayClose, RemovesClient, RiseTo, ServesHosts, number_of, steps_of};
+ghost use Rattle.proxy_connections.specs.WorkerConnections.{AddsClient, ChangesClient, ChangesHost, HasNewClient, IsNewcomer, KeepsClients, LetsGo, MakesRoom, MayCarry, MayClose, RemovesClient, RiseTo, ServesHosts, number_of, steps_of};
 
 use crate::client_connection::{
     CarriedSocket, ClientConnection, ClientRound, Lent, Opening, Stepped,
@@ -30,15 +32,6 @@ use ticket_gate::Seated;
 
 /// Tokens from here on are hosts. The token of a client is its key.
 pub const HOSTS: usize = 1 << 32;
-
-/// What came of a connection that the core opened.
-#[derive(Clone, Copy, Drop)]
-pub enum Opened {
-    /// Its client has a key.
-    Kept,
-    /// There was no room for the client, and the connection is dropped.
-    Dropped,
-}
 
 /// What came of a client's round.
 #[derive(Clone, Copy, Drop)]
@@ -207,7 +200,8 @@ impl<'a> WorkerConnections<'a> {
 
     /// Makes room for one more client. False: there is no memory.
     pub fn reserve_slot(&mut self) -> bool
-        ensures { MakesRoom self.old self.new }
+        ensures makes { MakesRoom self.old self.new }
+        ensures room { OnTrue result (HasRoomFor self.new.clients 1) }
     {
         self.clients.reserve(1).is_ok() && self.ready.reserve(self.clients.capacity()).is_ok()
     }
@@ -280,11 +274,16 @@ impl<'a> WorkerConnections<'a> {
         round: Round<'_>,
         stream: AdmittedStream,
         open_connection: OpenConnection,
-    ) -> Result<Opened, StepError>
-        ensures { AddsClient self.old self.new }
+    ) -> Result<(), StepError>
+        requires { HasRoomFor self.old.clients 1 }
+        ensures adds { AddsClient self.old self.new }
+        ensures there { OnOk result (HasNewClient self.old self.new) }
     {
         match ClientConnection::open(rt, self.alloc, &mut self.turns, stream, open_connection) {
-            Ok(client) => Ok(self.insert(round, client)),
+            Ok(client) => {
+                self.insert(round, client);
+                Ok(())
+            }
             Err(error) => Err(StepError::from(error)),
         }
     }
@@ -297,8 +296,10 @@ impl<'a> WorkerConnections<'a> {
         round: Round<'_>,
         carried: CarriedSocket,
         open_connection: OpenConnection,
-    ) -> Result<Opened, (StepError, CarriedSocket)>
-        ensures { AddsClient self.old self.new }
+    ) -> Result<(), (StepError, CarriedSocket)>
+        requires { HasRoomFor self.old.clients 1 }
+        ensures adds { AddsClient self.old self.new }
+        ensures there { OnOk result (HasNewClient self.old self.new) }
     {
         let opening = Opening {
             alloc: self.alloc,
@@ -309,29 +310,29 @@ impl<'a> WorkerConnections<'a> {
         match ClientConnection::open_carried(rt, turns, opening, carried, open_connection) {
             Ok(client) => {
                 client.note_carried(round.room);
-                Ok(self.insert(round, client))
+                self.insert(round, client);
+                Ok(())
             }
             Err((error, carried)) => Err((StepError::from(error), carried)),
         }
     }
 
     // The client has a connection from here on.
-    fn insert(&mut self, round: Round<'_>, mut client: ClientConnection) -> Opened
-        requires { IsNewcomer client.engine self.old.clients self.old.steps }
+    fn insert(&mut self, round: Round<'_>, mut client: ClientConnection)
+        requires room { HasRoomFor self.old.clients 1 }
+        requires newcomer { IsNewcomer client.engine self.old.clients self.old.steps }
         ensures place { self.new.place ≡ self.old.place }
         ensures settings { self.new.settings ≡ self.old.settings }
         ensures hosts { self.new.hosts ≡ self.old.hosts }
         ensures steps { self.new.steps ≡ self.old.steps }
         ensures stay { KeepsClients self.old.clients self.new.clients }
+        ensures there { HasNewClient self.old self.new }
     {
         begin_input(&mut client, round.ends_inputs);
         let conn = client.conn();
-        let Ok(key) = self.clients.insert(client) else {
-            return Opened::Dropped;
-        };
+        let key = self.clients.insert_reserved(client);
         round.notices.add_client(conn, self.place.index, key);
         self.ready.make_ready(key);
-        Opened::Kept
     }
 
     /// Records what the poll reports of a client's socket.

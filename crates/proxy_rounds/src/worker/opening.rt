@@ -1,10 +1,11 @@
 //! How a worker opens the sockets in its queue.
+ghost use Rattle.slab.specs.Slab.{HasRoomFor};
 
-use super::{MAX_EVENTS, Worker};
+use super::{MAX_EVENTS, Remaining, Worker};
 use journal_room::OpenConnection;
 use mio::Token;
 use open_sockets::AdmittedStream;
-use proxy_connections::{CarriedSocket, Opened, StepError};
+use proxy_connections::{CarriedSocket, StepError};
 use proxy_exit_status::Ending;
 use proxy_generations::Phase;
 use proxy_server::Stop;
@@ -59,7 +60,7 @@ impl Worker<'_> {
             let Ok(connection) = self.generation.room.count_opened() else {
                 return self.count_refusal();
             };
-            if !self.borrow_to_open(rt) || self.open_next(rt, connection)?.is_none() {
+            if !self.borrow_to_open(rt) || self.open_next(rt, connection)? == Remaining::Nothing {
                 return Ok(());
             }
         }
@@ -67,44 +68,35 @@ impl Worker<'_> {
         Ok(())
     }
 
-    // Opens the first socket in the worker's queue, a carried-over one first. `None`: there is none, or it can't be opened
-    // for now.
+    // Opens the first socket in the worker's queue, a carried-over one first. `Work`: others may wait. `Nothing`: none does, or it
+    // can't be opened for now.
     fn open_next<R: Wait>(
         &mut self,
         rt: &R,
         connection: OpenConnection,
-    ) -> Result<Option<Opened>, Stop> {
+    ) -> Result<Remaining, Stop> {
         let server = self.generation.server();
         if !self.connections.reserve_slot() {
             self.count_refusal()?;
-            return Ok(None);
+            return Ok(Remaining::Nothing);
         }
         if let Some(carried) = server.take_carried(rt, self.index()) {
             return self.open_carried(rt, carried, connection);
         }
         match server.pop(rt, self.index()) {
             Some(stream) => self.open(rt, stream, connection),
-            None => Ok(None),
+            None => Ok(Remaining::Nothing),
         }
     }
 
-    // Without room for its client the socket is closed.
-    fn handle_opened(&mut self, opened: Opened) -> Opened {
-        self.opening.succeeded();
-        if let Opened::Dropped = opened {
-            self.generation.server().count_closed();
-        }
-        opened
-    }
-
-    // The socket waits in the queue again where there is no memory or no step left; else, where its connection can't be
-    // opened, its buffered bytes are written and it is closed.
     fn open_carried<R: Wait>(
         &mut self,
         rt: &R,
         carried: CarriedSocket,
         connection: OpenConnection,
-    ) -> Result<Option<Opened>, Stop> {
+    ) -> Result<Remaining, Stop>
+        requires { HasRoomFor self.old.connections.clients 1 }
+    {
         let round = self
             .generation
             .round(self.poll.registry(), self.mode, self.now);
@@ -112,26 +104,31 @@ impl Worker<'_> {
             .connections
             .open_carried(rt, round, carried, connection)
         {
-            Ok(opened) => Ok(Some(self.handle_opened(opened))),
+            Ok(()) => {
+                self.opening.succeeded();
+                Ok(Remaining::Work)
+            }
             Err((error, carried)) => self.refuse_carried(rt, error, carried),
         }
     }
 
+    // The socket waits in the queue again where there is no memory or no step left; else, where its connection can't be
+    // opened, its buffered bytes are written and it is closed.
     fn refuse_carried<R: Wait>(
         &mut self,
         rt: &R,
         error: StepError,
         carried: CarriedSocket,
-    ) -> Result<Option<Opened>, Stop> {
+    ) -> Result<Remaining, Stop> {
         let server = self.generation.server();
         self.handle_open_error(error)?;
         if error.ends_one() {
             self.connections.close_carried(carried);
             server.count_closed();
-            return Ok(Some(Opened::Dropped));
+            return Ok(Remaining::Work);
         }
         server.carry_back(rt, self.index(), carried);
-        Ok(None)
+        Ok(Remaining::Nothing)
     }
 
     // A socket whose connection can't be opened is dropped.
@@ -140,20 +137,20 @@ impl Worker<'_> {
         rt: &R,
         mut stream: AdmittedStream,
         connection: OpenConnection,
-    ) -> Result<Option<Opened>, Stop> {
+    ) -> Result<Remaining, Stop>
+        requires { HasRoomFor self.old.connections.clients 1 }
+    {
         let token = Token(self.connections.vacant_key());
         if stream.register(self.poll.registry(), token).is_err() {
-            return Ok(Some(Opened::Dropped));
+            return Ok(Remaining::Work);
         }
         let round = self
             .generation
             .round(self.poll.registry(), self.mode, self.now);
         match self.connections.open(rt, round, stream, connection) {
-            Ok(opened) => Ok(Some(self.handle_opened(opened))),
-            Err(error) => {
-                self.handle_open_error(error)?;
-                Ok(Some(Opened::Dropped))
-            }
+            Ok(()) => self.opening.succeeded(),
+            Err(error) => self.handle_open_error(error)?,
         }
+        Ok(Remaining::Work)
     }
 }

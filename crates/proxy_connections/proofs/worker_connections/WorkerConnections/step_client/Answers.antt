@@ -1,5 +1,5 @@
 use Rattle.std.proofs.Common.{refl, sym}
-use Rattle.proxy_connections.proofs.WorkerConnectionLemmas.{changes_client, changes_same, serves_same, serves_stepped}
+use Rattle.proxy_connections.proofs.WorkerConnectionLemmas.{changes_client, changes_same, lets_go, serves_same, serves_stepped}
 use Rattle.proxy_connections.proofs.worker_connections.WorkerConnections.step_client.Goals as goal
 
 pub invariant_of-self-then-not-may_go : goal.invariant_of-self-then-not-may_go
@@ -13,3 +13,6 @@ invariant_of-self-2 g c = serves_stepped _ _ _ c.in-Some.client.now _ _ _ (sym c
 
 pub returns-clause-changes : goal.returns-clause-changes
 returns-clause-changes g c = rw (← c.self.view_is) (changes_client _ _ _ c.in-Some.client.now _ _ _ (sym c.in-Some.ensures.value) c.run_once-stepped.ensures.keeps)
+
+pub returns-clause-leaves : goal.returns-clause-leaves
+returns-clause-leaves g c = lets_go _ _ c.in-Some.client.now _ (sym c.in-Some.ensures.value) _ c.run_once-stepped.ensures.closed c.run_once-stepped.ensures.carried
