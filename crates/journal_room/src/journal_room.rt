@@ -1,6 +1,7 @@
 ghost use Rattle.std.specs.Prelude.{◌≡◌, ◌↔◌, ◌≤◌, ◌<◌, ◌+◌, ◌-◌, ◌/◌, ◌⊎◌, max, IsTrue};
 ghost use Rattle.std.specs.Bool.{OnTrue, OnFalse};
 ghost use Rattle.limits.specs.declared.journals.TheConstants.{MAX_COMMAND_STEPS};
+ghost use Rattle.crossbeam_utils.specs.Padded.{padded_value};
 ghost use Rattle.journal_budget.specs.Account.{known, owed_steps};
 ghost use Rattle.journal_budget.specs.Budget.{capped, no_loan, free_steps, borrowed};
 ghost use Rattle.journal_budget.specs.Counts.{no_bytes};
@@ -8,12 +9,12 @@ ghost use Rattle.journal_budget.specs.Payload.{HasRoomForCommand, HasRoomForRepl
 ghost use Rattle.journal_room.specs.declared.journal_room.TheConstants.{LARGE, LARGE_STEP};
 
 use crate::metered_turns::{HeldTurns, MeteredTurns};
+use crate::room_ledger::RoomLedger;
 use crate::unfinished_sum::UnfinishedSum;
 use crossbeam_utils::CachePadded;
-use journal_budget::Ledger;
 use limits::{MAX_COMMAND_STEPS, MAX_UNFINISHED};
+use std::sync::Wait;
 use std::sync::atomic::{AtomicBool, AtomicU64, Ordering};
-use std::sync::{Mutex, Wait};
 
 // Payload of this many bytes is reported before room is decided.
 const LARGE: u64 = 65_536;
@@ -31,7 +32,7 @@ pub struct JournalRoom {
     // The last generation's payload bytes a step.
     average: u64,
     open: AtomicU64,
-    ledger: CachePadded<Mutex<Ledger>>,
+    ledger: CachePadded<RoomLedger>,
     // No further commands are accepted, so that accepted ones can be answered before the journal is full.
     is_full: AtomicBool,
     unfinished: CachePadded<UnfinishedSum>,
@@ -60,7 +61,7 @@ impl JournalRoom {
             workers,
             average,
             open: AtomicU64::new(0),
-            ledger: CachePadded::new(Mutex::new(Ledger::new())),
+            ledger: CachePadded::new(RoomLedger::new()),
             is_full: AtomicBool::new(false),
             unfinished: CachePadded::new(UnfinishedSum::new()),
         }
@@ -71,6 +72,7 @@ impl JournalRoom {
     pub fn settle<R: Wait, T: HeldTurns>(&self, rt: &R, turns: &mut MeteredTurns<T>, reserve: u64)
         ensures turns { turns.new.turns ≡ turns.old.turns }
         ensures counts { turns.new.account.counts ≡ turns.old.account.counts }
+        ensures last { turns.new.last_ledger ≡ (padded_value self.now.ledger).name }
         ensures lent { reserve ≤ turns.new.account.reported.left
             → turns.new.account.loan ≡ borrowed reserve no_loan }
         ensures too_few { turns.new.account.reported.left < reserve
@@ -80,11 +82,8 @@ impl JournalRoom {
             × (turns.new.account.steps ≡ 0) × (turns.new.account.cost ≡ 0) }
     {
         turns.leave();
-        let mut ledger = self.ledger.lock(rt);
-        let ledger = &mut *ledger;
         let open = self.open.load(Ordering::SeqCst);
-        turns.account.settle(ledger, self.average, open);
-        turns.account.borrow_steps(ledger, reserve);
+        turns.settle(&mut self.ledger.lock(rt), self.average, open, reserve);
     }
 
     /// Lends this many steps. False: too few are left. The turns leave the gate.
@@ -95,12 +94,13 @@ impl JournalRoom {
         steps: u64,
     ) -> bool
         ensures turns { turns.new.turns ≡ turns.old.turns }
+        ensures last { turns.new.last_ledger ≡ (padded_value self.now.ledger).name }
         ensures lent { OnTrue result (turns.new.account
             ≡ record turns.old.account { loan = borrowed steps turns.old.account.loan }) }
         ensures unchanged { OnFalse result (turns.new.account ≡ turns.old.account) }
     {
         turns.leave();
-        turns.account.borrow_steps(&mut self.ledger.lock(rt), steps)
+        turns.borrow_steps(&mut self.ledger.lock(rt), steps)
     }
 
     /// Lends steps until the worker has enough for any command beside the reserve. False: too few are left. The turns
@@ -112,6 +112,8 @@ impl JournalRoom {
         reserve: u64,
     ) -> bool
         ensures turns { turns.new.turns ≡ turns.old.turns }
+        ensures last { (turns.new ≡ turns.old)
+            ⊎ (turns.new.last_ledger ≡ (padded_value self.now.ledger).name) }
         ensures enough { IsTrue result
             ↔ (capped (reserve + MAX_COMMAND_STEPS) ≤ free_steps turns.new.account.loan) }
         ensures account { turns.new.account
@@ -126,8 +128,8 @@ impl JournalRoom {
         turns.leave();
         let mut ledger = self.ledger.lock(rt);
         let ledger = &mut *ledger;
-        let is_lent = turns.account.borrow_steps(ledger, many.max(missing))
-            || turns.account.borrow_steps(ledger, missing);
+        let is_lent = turns.borrow_steps(ledger, many.max(missing))
+            || turns.borrow_steps(ledger, missing);
         is_lent && turns.free_steps() >= least
     }
 
@@ -153,12 +155,12 @@ impl JournalRoom {
             → average_of turns.old.account.reported.payload < LARGE_STEP
             → turns.new.account ≡ record turns.old.account { loan = turns.new.account.loan } }
     {
-        if unfinished.max(turns.account.unreported_bytes()) >= LARGE
-            || turns.account.average() >= LARGE_STEP
+        if unfinished.max(turns.account().unreported_bytes()) >= LARGE
+            || turns.account().average() >= LARGE_STEP
         {
             self.settle(rt, turns, reserve);
         }
-        self.lend(rt, turns, reserve) && turns.account.has_room_for_command(unfinished)
+        self.lend(rt, turns, reserve) && turns.account().has_room_for_command(unfinished)
     }
 
     /// Whether there is room for a reply of which `came` bytes have come, and the other workers know of `reported`. A
@@ -174,6 +176,8 @@ impl JournalRoom {
         ensures counts { turns.new.account.counts ≡ turns.old.account.counts }
         ensures loan { turns.new.account.loan ≡ turns.old.account.loan }
         ensures room { IsTrue result → HasRoomForReply (known turns.new.account) came }
+        ensures last { LARGE ≤ max (max came reported.old) turns.old.account.bytes.kept
+            → turns.new.last_ledger ≡ (padded_value self.now.ledger).name }
         ensures beside { LARGE ≤ max (max came reported.old) turns.old.account.bytes.kept
             → (IsTrue result ↔ HasRoomForReply (known turns.new.account)
             (capped (turns.new.account.reported.coming - reported.old + came))) }
@@ -185,27 +189,23 @@ impl JournalRoom {
         ensures large { LARGE ≤ max (max came reported.old) turns.old.account.bytes.kept
             → (reported.new ≡ came) × (turns.new.account.bytes ≡ no_bytes) }
     {
-        if came.max(*reported).max(turns.account.unreported_bytes()) < LARGE {
-            return turns.account.has_room_for_reply(came);
+        if came.max(*reported).max(turns.account().unreported_bytes()) < LARGE {
+            return turns.account().has_room_for_reply(came);
         }
         turns.leave();
-        let mut ledger = self.ledger.lock(rt);
-        let ledger = &mut *ledger;
-        turns
-            .account
-            .report_reply(ledger, self.average, came, reported)
+        turns.report_reply(&mut self.ledger.lock(rt), self.average, came, reported)
     }
 
     /// The steps made or owed, by the workers' reports.
     pub fn spent<R: Wait>(&self, rt: &R) -> u64 {
-        self.ledger.lock(rt).spent()
+        self.ledger.lock(rt).ledger.spent()
     }
 
     /// The payload bytes a step that the next generation starts with: at least half of what this one started with.
     pub fn average<R: Wait>(&self, rt: &R) -> u64
         ensures { self.now.average / 2 ≤ result }
     {
-        self.ledger.lock(rt).next_average(self.average)
+        self.ledger.lock(rt).ledger.next_average(self.average)
     }
 
     /// Whether no further commands are accepted.

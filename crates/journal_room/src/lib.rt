@@ -18,6 +18,7 @@
 mod journal_room;
 mod laws;
 mod metered_turns;
+mod room_ledger;
 mod turn_step;
 mod unfinished_sum;
 

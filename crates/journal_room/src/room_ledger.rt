@@ -1,0 +1,105 @@
+//! A room's ledger behind its lock. It has a name, by which contracts tell whose steps a worker has.
+ghost use Rattle.std.specs.Prelude.{◌≡◌};
+ghost use Rattle.std.specs.Sync.Mutex.{mutex_guard_value};
+
+use journal_budget::Ledger;
+use std::marker::Model;
+use std::snapshot::Snapshot;
+use std::sync::ledger::Blank;
+use std::sync::{Mutex, MutexGuard, Wait};
+
+/// The name of a ledger, which no other has. It takes no bytes: only contracts see it.
+#[derive(Drop)]
+pub(crate) struct LedgerName {
+    blank: Snapshot<Blank>,
+}
+
+impl Model for LedgerName {
+    ghost use Rattle.std.specs.Prelude.{ℕ};
+
+    ghost Value = { ℕ };
+
+    ghost view = { λ n. n.blank.value.name };
+}
+
+impl LedgerName {
+    /// A name that nothing has yet.
+    fn new() -> LedgerName {
+        LedgerName {
+            blank: Snapshot::of(&Blank::new(0)),
+        }
+    }
+}
+
+/// A ledger with its name, as its lock's holder has it.
+#[derive(Drop)]
+pub(crate) struct NamedLedger {
+    pub(crate) ledger: Ledger,
+    name: Snapshot<LedgerName>,
+}
+
+/// A ledger that several workers use.
+#[derive(Drop)]
+pub(crate) struct RoomLedger {
+    name: LedgerName,
+    lock: Mutex<NamedLedger>,
+}
+
+impl RoomLedger {
+    /// The ledger of an empty journal, with a name of its own.
+    pub(crate) fn new() -> RoomLedger {
+        let name = LedgerName::new();
+        let named = NamedLedger {
+            ledger: Ledger::new(),
+            name: Snapshot::of(&name),
+        };
+        RoomLedger {
+            name,
+            lock: Mutex::new(named),
+        }
+    }
+
+    /// Waits for the ledger. That it is this one's, and no other's, rests on this body alone.
+    pub(crate) fn lock<R: Wait>(&self, rt: &R) -> MutexGuard<'_, NamedLedger>
+        ensures { (mutex_guard_value result).name.value ≡ self.now.name }
+    {
+        let mut named = self.lock.lock(rt);
+        named.name = Snapshot::of(&self.name);
+        named
+    }
+}
+
+/// The name of the ledger that a worker used last. It takes no bytes.
+#[derive(Drop)]
+pub(crate) struct LastLedger {
+    name: Snapshot<Snapshot<LedgerName>>,
+}
+
+impl Model for LastLedger {
+    ghost use Rattle.std.specs.Prelude.{ℕ};
+
+    ghost Value = { ℕ };
+
+    ghost view = { λ l. l.name.value.value };
+}
+
+impl LastLedger {
+    /// None was used: it has a name of its own.
+    pub(crate) fn none() -> LastLedger {
+        let name = LedgerName::new();
+        let named = Snapshot::of(&name);
+        LastLedger {
+            name: Snapshot::of(&named),
+        }
+    }
+
+    /// This one was used.
+    #[inline(always)]
+    pub(crate) fn of(used: &NamedLedger) -> LastLedger
+        ensures { result ≡ used.now.name.value }
+    {
+        LastLedger {
+            name: Snapshot::of(&used.name),
+        }
+    }
+}
