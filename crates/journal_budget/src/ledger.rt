@@ -30,7 +30,7 @@ impl Model for Ledger {
 
 impl Ledger {
     ghost use Rattle.limits.specs.declared.journals.TheConstants.{MAX_STEPS};
-    ghost use Rattle.journal_budget.specs.Ledger.{empty_ledger, left_of, payload_in, with_steps, with_coming};
+    ghost use Rattle.journal_budget.specs.Ledger.{empty_ledger, payload_in, with_steps, with_coming};
     ghost use Rattle.journal_budget.specs.Payload.{next_average_of};
 
     /// The ledger of an empty journal.
@@ -72,13 +72,6 @@ impl Ledger {
         ensures fits { self.now.budget.spent + self.now.budget.lent ≤ MAX_STEPS }
     {
         self.budget.spent()
-    }
-
-    /// The steps that may still be lent.
-    pub(crate) fn left(&self) -> u64
-        ensures { result ≡ left_of self.now }
-    {
-        self.budget.left()
     }
 
     /// The journal's payload, by the last generation's payload bytes a step.

@@ -12,10 +12,6 @@ pub(crate) struct Reported {
     payload: Payload,
     // The owed steps that have payload.
     owed: u64,
-    // The steps left to lend.
-    left: u64,
-    // The bytes of large replies that are coming.
-    coming: u64,
     average: u64,
     is_far: bool,
 }
@@ -25,12 +21,7 @@ impl Model for Reported {
 
     ghost Value = { ReportedState };
 
-    ghost view = { λ r. record {
-      payload = r.payload;
-      owed = r.owed;
-      left = r.left;
-      coming = r.coming;
-    } };
+    ghost view = { λ r. record { payload = r.payload; owed = r.owed } };
 
     ghost invariant = { λ r. IsReported r.payload r.owed r.average r.is_far };
 }
@@ -46,8 +37,6 @@ impl Reported {
         Reported {
             payload,
             owed,
-            left: ledger.left(),
-            coming: ledger.coming(),
             average,
             is_far,
         }

@@ -1,8 +1,9 @@
 ghost use Rattle.std.specs.Prelude.{◌≡◌, ◌↔◌, ◌≤◌, ◌<◌, ◌+◌, ◌-◌, ◌/◌, ◌⊎◌, max, IsTrue};
 ghost use Rattle.std.specs.Bool.{OnTrue, OnFalse};
-ghost use Rattle.limits.specs.declared.journals.TheConstants.{MAX_COMMAND_STEPS};
+ghost use Rattle.limits.specs.declared.journals.TheConstants.{MAX_COMMAND_STEPS, MAX_STEPS};
 ghost use Rattle.crossbeam_utils.specs.Padded.{padded_value};
-ghost use Rattle.journal_budget.specs.Account.{known, owed_steps};
+ghost use Rattle.journal_budget.specs.Account.{known, owed_steps, reported_to, with_account, with_payload};
+ghost use Rattle.journal_budget.specs.Ledger.{HasLeft, payload_in};
 ghost use Rattle.journal_budget.specs.Budget.{capped, no_loan, free_steps, borrowed};
 ghost use Rattle.journal_budget.specs.Counts.{no_bytes};
 ghost use Rattle.journal_budget.specs.Payload.{HasRoomForCommand, HasRoomForReply, average_of};
@@ -72,12 +73,14 @@ impl JournalRoom {
     pub fn settle<R: Wait, T: HeldTurns>(&self, rt: &R, turns: &mut MeteredTurns<T>, reserve: u64)
         ensures turns { turns.new.turns ≡ turns.old.turns }
         ensures counts { turns.new.account.counts ≡ turns.old.account.counts }
-        ensures last { turns.new.last_ledger ≡ (padded_value self.now.ledger).name }
-        ensures lent { reserve ≤ turns.new.account.reported.left
-            → turns.new.account.loan ≡ borrowed reserve no_loan }
-        ensures too_few { turns.new.account.reported.left < reserve
-            → turns.new.account.loan ≡ no_loan }
-        ensures average { turns.new.account.reported.payload.before ≡ self.now.average }
+        ensures last { turns.new.last_ledger.name ≡ (padded_value self.now.ledger).name }
+        ensures lent { HasLeft reserve (with_account turns.old.account
+            turns.new.last_ledger.found) → turns.new.account.loan ≡ borrowed reserve no_loan }
+        ensures too_few { (turns.new.account.loan ≡ no_loan)
+            ⊎ HasLeft reserve (with_account turns.old.account turns.new.last_ledger.found) }
+        ensures payload { turns.new.account.reported.payload
+            ≡ payload_in self.now.average
+            (with_account turns.old.account turns.new.last_ledger.found) }
         ensures reported { (turns.new.account.bytes ≡ no_bytes)
             × (turns.new.account.steps ≡ 0) × (turns.new.account.cost ≡ 0) }
     {
@@ -94,7 +97,8 @@ impl JournalRoom {
         steps: u64,
     ) -> bool
         ensures turns { turns.new.turns ≡ turns.old.turns }
-        ensures last { turns.new.last_ledger ≡ (padded_value self.now.ledger).name }
+        ensures last { turns.new.last_ledger.name ≡ (padded_value self.now.ledger).name }
+        ensures fits { IsTrue result ↔ HasLeft steps turns.new.last_ledger.found }
         ensures lent { OnTrue result (turns.new.account
             ≡ record turns.old.account { loan = borrowed steps turns.old.account.loan }) }
         ensures unchanged { OnFalse result (turns.new.account ≡ turns.old.account) }
@@ -113,11 +117,15 @@ impl JournalRoom {
     ) -> bool
         ensures turns { turns.new.turns ≡ turns.old.turns }
         ensures last { (turns.new ≡ turns.old)
-            ⊎ (turns.new.last_ledger ≡ (padded_value self.now.ledger).name) }
+            ⊎ (turns.new.last_ledger.name ≡ (padded_value self.now.ledger).name) }
         ensures enough { IsTrue result
             ↔ (capped (reserve + MAX_COMMAND_STEPS) ≤ free_steps turns.new.account.loan) }
         ensures account { turns.new.account
             ≡ record turns.old.account { loan = turns.new.account.loan } }
+        ensures too_few { OnFalse result (turns.new.account ≡ turns.old.account
+            → MAX_STEPS < turns.new.last_ledger.found.budget.spent
+            + turns.new.last_ledger.found.budget.lent
+            + (capped (reserve + MAX_COMMAND_STEPS) - free_steps turns.old.account.loan)) }
     {
         let least = reserve.saturating_add(MAX_COMMAND_STEPS);
         if turns.free_steps() >= least {
@@ -144,6 +152,8 @@ impl JournalRoom {
     ) -> bool
         ensures turns { turns.new.turns ≡ turns.old.turns }
         ensures counts { turns.new.account.counts ≡ turns.old.account.counts }
+        ensures last { (turns.new ≡ turns.old)
+            ⊎ (turns.new.last_ledger.name ≡ (padded_value self.now.ledger).name) }
         ensures takes { IsTrue result
             ↔ ((capped (reserve + MAX_COMMAND_STEPS) ≤ free_steps turns.new.account.loan)
             × HasRoomForCommand (known turns.new.account) (owed_steps turns.new.account)
@@ -177,17 +187,17 @@ impl JournalRoom {
         ensures loan { turns.new.account.loan ≡ turns.old.account.loan }
         ensures room { IsTrue result → HasRoomForReply (known turns.new.account) came }
         ensures last { LARGE ≤ max (max came reported.old) turns.old.account.bytes.kept
-            → turns.new.last_ledger ≡ (padded_value self.now.ledger).name }
+            → turns.new.last_ledger.name ≡ (padded_value self.now.ledger).name }
         ensures beside { LARGE ≤ max (max came reported.old) turns.old.account.bytes.kept
             → (IsTrue result ↔ HasRoomForReply (known turns.new.account)
-            (capped (turns.new.account.reported.coming - reported.old + came))) }
-        ensures average { LARGE ≤ max (max came reported.old) turns.old.account.bytes.kept
-            → turns.new.account.reported.payload.before ≡ self.now.average }
+            (capped (turns.new.last_ledger.found.coming - reported.old + came))) }
         ensures small { max (max came reported.old) turns.old.account.bytes.kept < LARGE
             → (turns.new ≡ turns.old) × (reported.new ≡ reported.old)
             × (IsTrue result ↔ HasRoomForReply (known turns.old.account) came) }
         ensures large { LARGE ≤ max (max came reported.old) turns.old.account.bytes.kept
-            → (reported.new ≡ came) × (turns.new.account.bytes ≡ no_bytes) }
+            → (reported.new ≡ came) × (turns.new.account
+            ≡ reported_to (with_payload turns.old.account turns.new.last_ledger.found)
+            self.now.average turns.old.account.reported.owed turns.old.account) }
     {
         if came.max(*reported).max(turns.account().unreported_bytes()) < LARGE {
             return turns.account().has_room_for_reply(came);

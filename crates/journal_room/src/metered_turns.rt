@@ -1,4 +1,4 @@
-ghost use Rattle.std.specs.Prelude.{◌≡◌, ◌↔◌, ◌≤◌, ◌<◌, ◌+◌, IfOk, IfErr, IsTrue};
+ghost use Rattle.std.specs.Prelude.{◌≡◌, ◌↔◌, IfOk, IfErr, IsTrue};
 ghost use Rattle.std.specs.Bool.{OnTrue, OnFalse};
 ghost use Rattle.ticket_gate.specs.Journal.{AddsTurn};
 ghost use Rattle.ticket_gate.specs.Turns.{KeepsPlace, RefusesTurn};
@@ -111,54 +111,56 @@ impl<T: CoreTurns> MeteredTurns<T> {
     }
 }
 
-// With a ledger: each notes that it was the last one used.
+// With a ledger: each notes how it found it.
 impl<T: CoreTurns> MeteredTurns<T> {
-    ghost use Rattle.limits.specs.declared.journals.TheConstants.{MAX_STEPS};
     ghost use Rattle.journal_budget.specs.Account.{known, reported_to, settled_with, with_account, with_payload};
-    ghost use Rattle.journal_budget.specs.Budget.{borrowed, lent_more, no_loan};
-    ghost use Rattle.journal_budget.specs.Ledger.{with_coming};
+    ghost use Rattle.journal_budget.specs.Budget.{borrowed, no_loan};
+    ghost use Rattle.journal_budget.specs.Ledger.{HasLeft, lends_more, with_coming};
     ghost use Rattle.journal_budget.specs.Payload.{HasRoomForReply};
 
     /// Borrows steps of a ledger. False: that many aren't left, and none is lent.
     pub(crate) fn borrow_steps(&mut self, named: &mut NamedLedger, steps: u64) -> bool
         ensures turns { self.new.turns ≡ self.old.turns }
-        ensures last { self.new.last_ledger ≡ named.old.name.value }
-        ensures fits { IsTrue result ↔ (named.old.ledger.budget.spent
-            + named.old.ledger.budget.lent + steps ≤ MAX_STEPS) }
+        ensures last { self.new.last_ledger
+            ≡ record { name = named.old.name.value; found = named.old.ledger } }
+        ensures fits { IsTrue result ↔ HasLeft steps named.old.ledger }
         ensures loan { OnTrue result (self.new.account
             ≡ record self.old.account { loan = borrowed steps self.old.account.loan }) }
-        ensures lent { OnTrue result (named.new ≡ record named.old {
-          ledger
-              = record named.old.ledger { budget = lent_more steps named.old.ledger.budget };
-        }) }
+        ensures lent { OnTrue result (named.new
+            ≡ record named.old { ledger = lends_more steps named.old.ledger }) }
         ensures unchanged { OnFalse result ((self.new.account ≡ self.old.account)
             × (named.new ≡ named.old)) }
     {
-        self.last_ledger = LastLedger::of(named);
+        self.last_ledger = LastLedger::found(named);
         self.account.borrow_steps(&mut named.ledger, steps)
     }
 
     /// Settles with a ledger while this many connections are open, as [`Account::settle`] does, and borrows this
-    /// reserve of it if so many steps are left.
+    /// reserve of it. False: that many steps aren't left, and none is lent.
     pub(crate) fn settle(
         &mut self,
         named: &mut NamedLedger,
         average: u64,
         connections: u64,
         reserve: u64,
-    )
+    ) -> bool
         ensures turns { self.new.turns ≡ self.old.turns }
-        ensures last { self.new.last_ledger ≡ named.old.name.value }
+        ensures last { self.new.last_ledger
+            ≡ record { name = named.old.name.value; found = named.old.ledger } }
+        ensures fits { IsTrue result
+            ↔ HasLeft reserve (with_account self.old.account named.old.ledger) }
         ensures account { self.new.account ≡ record (settled_with
             (with_account self.old.account named.old.ledger) average connections self.old.account)
             { loan = self.new.account.loan } }
-        ensures lent { reserve ≤ self.new.account.reported.left
-            → self.new.account.loan ≡ borrowed reserve no_loan }
-        ensures too_few { self.new.account.reported.left < reserve
-            → self.new.account.loan ≡ no_loan }
+        ensures lent { OnTrue result ((self.new.account.loan ≡ borrowed reserve no_loan)
+            × (named.new.ledger
+            ≡ lends_more reserve (with_account self.old.account named.old.ledger))) }
+        ensures not_lent { OnFalse result ((self.new.account.loan ≡ no_loan)
+            × (named.new.ledger ≡ with_account self.old.account named.old.ledger)) }
     {
+        self.last_ledger = LastLedger::found(named);
         self.account.settle(&mut named.ledger, average, connections);
-        self.borrow_steps(named, reserve);
+        self.account.borrow_steps(&mut named.ledger, reserve)
     }
 
     /// Reports payload and a large reply to a ledger, as [`Account::report_reply`] does.
@@ -170,7 +172,8 @@ impl<T: CoreTurns> MeteredTurns<T> {
         reported: &mut u64,
     ) -> bool
         ensures turns { self.new.turns ≡ self.old.turns }
-        ensures last { self.new.last_ledger ≡ named.old.name.value }
+        ensures last { self.new.last_ledger
+            ≡ record { name = named.old.name.value; found = named.old.ledger } }
         ensures account { self.new.account ≡ reported_to
             (with_payload self.old.account named.old.ledger) average
             self.old.account.reported.owed self.old.account }
@@ -180,7 +183,7 @@ impl<T: CoreTurns> MeteredTurns<T> {
         ensures room { IsTrue result
             ↔ HasRoomForReply (known self.new.account) named.new.ledger.coming }
     {
-        self.last_ledger = LastLedger::of(named);
+        self.last_ledger = LastLedger::found(named);
         self.account
             .report_reply(&mut named.ledger, average, came, reported)
     }

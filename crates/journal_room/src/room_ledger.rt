@@ -38,6 +38,15 @@ pub(crate) struct NamedLedger {
     name: Snapshot<LedgerName>,
 }
 
+impl NamedLedger {
+    fn new(name: &LedgerName) -> NamedLedger {
+        NamedLedger {
+            ledger: Ledger::new(),
+            name: Snapshot::of(name),
+        }
+    }
+}
+
 /// A ledger that several workers use.
 #[derive(Drop)]
 pub(crate) struct RoomLedger {
@@ -49,14 +58,8 @@ impl RoomLedger {
     /// The ledger of an empty journal, with a name of its own.
     pub(crate) fn new() -> RoomLedger {
         let name = LedgerName::new();
-        let named = NamedLedger {
-            ledger: Ledger::new(),
-            name: Snapshot::of(&name),
-        };
-        RoomLedger {
-            name,
-            lock: Mutex::new(named),
-        }
+        let lock = Mutex::new(NamedLedger::new(&name));
+        RoomLedger { name, lock }
     }
 
     /// Waits for the ledger. That it is this one's, and no other's, rests on this body alone.
@@ -69,37 +72,36 @@ impl RoomLedger {
     }
 }
 
-/// The name of the ledger that a worker used last. It takes no bytes.
+/// The ledger that a worker used last, as it found it. It takes no bytes.
 #[derive(Drop)]
 pub(crate) struct LastLedger {
-    name: Snapshot<Snapshot<LedgerName>>,
+    found: Snapshot<NamedLedger>,
 }
 
 impl Model for LastLedger {
-    ghost use Rattle.std.specs.Prelude.{ℕ};
+    ghost use Rattle.journal_room.specs.LastLedger.{UsedLedger};
 
-    ghost Value = { ℕ };
+    ghost Value = { UsedLedger };
 
-    ghost view = { λ l. l.name.value.value };
+    ghost view = { λ l. record {
+      name = l.found.value.name.value;
+      found = l.found.value.ledger;
+    } };
 }
 
 impl LastLedger {
-    /// None was used: it has a name of its own.
+    /// None was used yet: this one has a name of its own.
     pub(crate) fn none() -> LastLedger {
-        let name = LedgerName::new();
-        let named = Snapshot::of(&name);
-        LastLedger {
-            name: Snapshot::of(&named),
-        }
+        LastLedger::found(&NamedLedger::new(&LedgerName::new()))
     }
 
-    /// This one was used.
+    /// This one is used.
     #[inline(always)]
-    pub(crate) fn of(used: &NamedLedger) -> LastLedger
-        ensures { result ≡ used.now.name.value }
+    pub(crate) fn found(named: &NamedLedger) -> LastLedger
+        ensures { result ≡ record { name = named.now.name.value; found = named.now.ledger } }
     {
         LastLedger {
-            name: Snapshot::of(&used.name),
+            found: Snapshot::of(named),
         }
     }
 }
