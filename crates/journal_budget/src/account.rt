@@ -111,8 +111,8 @@ impl Account {
         is_lent
     }
 
-    /// Reports steps and payload, and returns unspent steps, while this many connections are open. The last generation
-    /// had `average` payload bytes a step.
+    /// Reports steps and payload, and returns unspent steps, while this many connections are open. `average` is the
+    /// last generation's payload bytes a step.
     pub fn settle(&mut self, ledger: &mut Ledger, average: u64, connections: u64)
         ensures account { self.new ≡ settled_with ledger.new average connections self.old }
         ensures ledger { ledger.new ≡ with_account self.old ledger.old }

@@ -27,7 +27,7 @@ impl Model for Reported {
 }
 
 impl Reported {
-    /// What a ledger says. The last generation had `average` payload bytes a step, and `owed` steps have payload.
+    /// `average` is the last generation's payload bytes a step. `owed` steps have payload.
     pub(crate) fn new(ledger: &Ledger, average: u64, owed: u64) -> Reported
         ensures { result ≡ reported_of average owed ledger.now }
     {

@@ -1,6 +1,6 @@
 ghost use Rattle.std.specs.Prelude.{◌≡◌, ◌↔◌, ◌≤◌, ◌<◌, ◌+◌, ◌-◌, ◌/◌, ◌⊎◌, max, IsTrue};
 ghost use Rattle.std.specs.Bool.{OnTrue, OnFalse};
-ghost use Rattle.limits.specs.declared.journals.TheConstants.{MAX_COMMAND_STEPS, MAX_STEPS};
+ghost use Rattle.limits.specs.declared.journals.TheConstants.{MAX_COMMAND_STEPS};
 ghost use Rattle.crossbeam_utils.specs.Padded.{padded_value};
 ghost use Rattle.journal_budget.specs.Account.{known, owed_steps, reported_to, with_account, with_payload};
 ghost use Rattle.journal_budget.specs.Ledger.{HasLeft, payload_in};
@@ -116,16 +116,12 @@ impl JournalRoom {
         reserve: u64,
     ) -> bool
         ensures turns { turns.new.turns ≡ turns.old.turns }
-        ensures last { (turns.new ≡ turns.old)
+        ensures last { ((turns.new ≡ turns.old) × IsTrue result)
             ⊎ (turns.new.last_ledger.name ≡ (padded_value self.now.ledger).name) }
         ensures enough { IsTrue result
             ↔ (capped (reserve + MAX_COMMAND_STEPS) ≤ free_steps turns.new.account.loan) }
         ensures account { turns.new.account
             ≡ record turns.old.account { loan = turns.new.account.loan } }
-        ensures too_few { OnFalse result (turns.new.account ≡ turns.old.account
-            → MAX_STEPS < turns.new.last_ledger.found.budget.spent
-            + turns.new.last_ledger.found.budget.lent
-            + (capped (reserve + MAX_COMMAND_STEPS) - free_steps turns.old.account.loan)) }
     {
         let least = reserve.saturating_add(MAX_COMMAND_STEPS);
         if turns.free_steps() >= least {
@@ -186,8 +182,6 @@ impl JournalRoom {
         ensures counts { turns.new.account.counts ≡ turns.old.account.counts }
         ensures loan { turns.new.account.loan ≡ turns.old.account.loan }
         ensures room { IsTrue result → HasRoomForReply (known turns.new.account) came }
-        ensures last { LARGE ≤ max (max came reported.old) turns.old.account.bytes.kept
-            → turns.new.last_ledger.name ≡ (padded_value self.now.ledger).name }
         ensures beside { LARGE ≤ max (max came reported.old) turns.old.account.bytes.kept
             → (IsTrue result ↔ HasRoomForReply (known turns.new.account)
             (capped (turns.new.last_ledger.found.coming - reported.old + came))) }
@@ -195,7 +189,8 @@ impl JournalRoom {
             → (turns.new ≡ turns.old) × (reported.new ≡ reported.old)
             × (IsTrue result ↔ HasRoomForReply (known turns.old.account) came) }
         ensures large { LARGE ≤ max (max came reported.old) turns.old.account.bytes.kept
-            → (reported.new ≡ came) × (turns.new.account
+            → (turns.new.last_ledger.name ≡ (padded_value self.now.ledger).name)
+            × (reported.new ≡ came) × (turns.new.account
             ≡ reported_to (with_payload turns.old.account turns.new.last_ledger.found)
             self.now.average turns.old.account.reported.owed turns.old.account) }
     {

@@ -118,7 +118,7 @@ impl<T: CoreTurns> MeteredTurns<T> {
     ghost use Rattle.journal_budget.specs.Ledger.{HasLeft, lends_more, with_coming};
     ghost use Rattle.journal_budget.specs.Payload.{HasRoomForReply};
 
-    /// Borrows steps of a ledger. False: that many aren't left, and none is lent.
+    /// False: that many aren't left, and none is lent.
     pub(crate) fn borrow_steps(&mut self, named: &mut NamedLedger, steps: u64) -> bool
         ensures turns { self.new.turns ≡ self.old.turns }
         ensures last { self.new.last_ledger
@@ -135,8 +135,7 @@ impl<T: CoreTurns> MeteredTurns<T> {
         self.account.borrow_steps(&mut named.ledger, steps)
     }
 
-    /// Settles with a ledger while this many connections are open, as [`Account::settle`] does, and borrows this
-    /// reserve of it. False: that many steps aren't left, and none is lent.
+    /// As [`Account::settle`]. Then it borrows this reserve. False: that many steps aren't left.
     pub(crate) fn settle(
         &mut self,
         named: &mut NamedLedger,
@@ -163,7 +162,7 @@ impl<T: CoreTurns> MeteredTurns<T> {
         self.account.borrow_steps(&mut named.ledger, reserve)
     }
 
-    /// Reports payload and a large reply to a ledger, as [`Account::report_reply`] does.
+    /// As [`Account::report_reply`].
     pub(crate) fn report_reply(
         &mut self,
         named: &mut NamedLedger,

@@ -23,7 +23,6 @@ impl Model for LedgerName {
 }
 
 impl LedgerName {
-    /// A name that nothing has yet.
     fn new() -> LedgerName {
         LedgerName {
             blank: Snapshot::of(&Blank::new(0)),
@@ -31,7 +30,7 @@ impl LedgerName {
     }
 }
 
-/// A ledger with its name, as its lock's holder has it.
+/// What lies under the lock.
 #[derive(Drop)]
 pub(crate) struct NamedLedger {
     pub(crate) ledger: Ledger,
@@ -47,7 +46,6 @@ impl NamedLedger {
     }
 }
 
-/// A ledger that several workers use.
 #[derive(Drop)]
 pub(crate) struct RoomLedger {
     name: LedgerName,
@@ -55,14 +53,13 @@ pub(crate) struct RoomLedger {
 }
 
 impl RoomLedger {
-    /// The ledger of an empty journal, with a name of its own.
     pub(crate) fn new() -> RoomLedger {
         let name = LedgerName::new();
         let lock = Mutex::new(NamedLedger::new(&name));
         RoomLedger { name, lock }
     }
 
-    /// Waits for the ledger. That it is this one's, and no other's, rests on this body alone.
+    /// That it gives this ledger, and no other, rests on its body alone.
     pub(crate) fn lock<R: Wait>(&self, rt: &R) -> MutexGuard<'_, NamedLedger>
         ensures { (mutex_guard_value result).name.value ≡ self.now.name }
     {
@@ -95,7 +92,6 @@ impl LastLedger {
         LastLedger::found(&NamedLedger::new(&LedgerName::new()))
     }
 
-    /// This one is used.
     #[inline(always)]
     pub(crate) fn found(named: &NamedLedger) -> LastLedger
         ensures { result ≡ record { name = named.now.name.value; found = named.now.ledger } }
