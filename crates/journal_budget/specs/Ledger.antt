@@ -1,8 +1,8 @@
 -- What contracts see of the ledger of a journal.
-use Rattle.std.specs.Prelude.{◌+◌, ◌-◌, ℕ}
+use Rattle.std.specs.Prelude.{◌≤◌, ◌+◌, ◌-◌, ℕ}
 use Rattle.limits.specs.declared.journals.TheConstants.{MAX_STEPS}
 use Rattle.journal_budget.specs.declared.payload_counts.PayloadCounts.{PayloadCounts}
-use Rattle.journal_budget.specs.Budget.{BudgetState, capped, no_budget}
+use Rattle.journal_budget.specs.Budget.{BudgetState, capped, no_budget, lent_more}
 use Rattle.journal_budget.specs.Payload.{PayloadState, no_payload}
 use Rattle.journal_budget.specs.Counts.{no_bytes, with_bytes}
 
@@ -18,9 +18,13 @@ pub record LedgerState : Type 0 where
 abbrev pub empty_ledger : LedgerState
 empty_ledger = record { budget = no_budget; bytes = no_bytes; coming = 0; steps = 0 }
 
--- the steps of a journal that are neither spent nor lent
-abbrev pub left_of : LedgerState → ℕ
-left_of l = MAX_STEPS - l.budget.spent - l.budget.lent
+-- so many steps of a journal are left: they fit beside those spent and lent
+abbrev pub HasLeft : ℕ → LedgerState → Type 0
+HasLeft steps l = l.budget.spent + l.budget.lent + steps ≤ MAX_STEPS
+
+-- a ledger once this many more steps were lent
+abbrev pub lends_more : ℕ → LedgerState → LedgerState
+lends_more steps l = record l { budget = lent_more steps l.budget }
 
 -- the payload of a journal whose generation began with this average of payload bytes a step
 abbrev pub payload_in : ℕ → LedgerState → PayloadState

@@ -1,18 +1,16 @@
 -- What the workers of a generation have reported of their payload.
 use Rattle.std.specs.Prelude.{◌≡◌, ◌≤◌, ◌-◌, ◌^◌, ℕ, Bool, true}
 use Rattle.journal_budget.specs.Payload.{PayloadState, average_of, IsFarFromFull}
-use Rattle.journal_budget.specs.Ledger.{LedgerState, left_of, payload_in}
+use Rattle.journal_budget.specs.Ledger.{LedgerState, payload_in}
 
--- the payload, the owed steps that have some, the steps left to lend, and the bytes of large replies that are coming
+-- the payload, and the owed steps that have some
 pub record ReportedState : Type 0 where
   pub payload : PayloadState
   pub owed : ℕ
-  pub left : ℕ
-  pub coming : ℕ
 
 -- what a ledger says, where the generation began with this average of payload bytes a step and so many owed steps have payload
 abbrev pub reported_of : ℕ → ℕ → LedgerState → ReportedState
-reported_of average owed l = record { payload = payload_in average l; owed = owed; left = left_of l; coming = l.coming }
+reported_of average owed l = record { payload = payload_in average l; owed = owed }
 
 -- no sum passes the greatest `u64`
 abbrev pub IsInRange : PayloadState → Type 0

@@ -1,4 +1,4 @@
-ghost use Rattle.std.specs.Prelude.{◌≡◌, ◌↔◌, ◌≤◌, ◌+◌, IsTrue};
+ghost use Rattle.std.specs.Prelude.{◌≡◌, ◌↔◌, IsTrue};
 ghost use Rattle.std.specs.Bool.{OnTrue, OnFalse};
 
 use crate::budget::Loan;
@@ -40,10 +40,9 @@ impl Model for Account {
 }
 
 impl Account {
-    ghost use Rattle.limits.specs.declared.journals.TheConstants.{MAX_STEPS};
     ghost use Rattle.journal_budget.specs.Account.{no_account, stepped_with, with_payload, with_account, reported_to, settled_with, known, owed_steps};
-    ghost use Rattle.journal_budget.specs.Ledger.{with_coming};
-    ghost use Rattle.journal_budget.specs.Budget.{free_steps, borrowed, lent_more};
+    ghost use Rattle.journal_budget.specs.Ledger.{HasLeft, lends_more, with_coming};
+    ghost use Rattle.journal_budget.specs.Budget.{free_steps, borrowed};
     ghost use Rattle.journal_budget.specs.Counts.{no_counts};
     ghost use Rattle.journal_budget.specs.Payload.{average_of, HasRoomForCommand, HasRoomForReply};
 
@@ -99,12 +98,10 @@ impl Account {
 
     /// Borrows steps. `false`: that many aren't left, and nothing changes.
     pub fn borrow_steps(&mut self, ledger: &mut Ledger, steps: u64) -> bool
-        ensures fits { IsTrue result
-            ↔ (ledger.old.budget.spent + ledger.old.budget.lent + steps ≤ MAX_STEPS) }
+        ensures fits { IsTrue result ↔ HasLeft steps ledger.old }
         ensures loan { OnTrue result (self.new
             ≡ record self.old { loan = borrowed steps self.old.loan }) }
-        ensures lent { OnTrue result (ledger.new
-            ≡ record ledger.old { budget = lent_more steps ledger.old.budget }) }
+        ensures lent { OnTrue result (ledger.new ≡ lends_more steps ledger.old) }
         ensures unchanged { OnFalse result ((self.new ≡ self.old) × (ledger.new ≡ ledger.old)) }
     {
         let is_lent = ledger.budget.lend(steps);
@@ -114,8 +111,8 @@ impl Account {
         is_lent
     }
 
-    /// Reports steps and payload, and returns unspent steps, while this many connections are open. The last generation
-    /// had `average` payload bytes a step.
+    /// Reports steps and payload, and returns unspent steps, while this many connections are open. `average` is the
+    /// last generation's payload bytes a step.
     pub fn settle(&mut self, ledger: &mut Ledger, average: u64, connections: u64)
         ensures account { self.new ≡ settled_with ledger.new average connections self.old }
         ensures ledger { ledger.new ≡ with_account self.old ledger.old }

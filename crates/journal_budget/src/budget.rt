@@ -95,12 +95,6 @@ impl Budget {
         self.spent
     }
 
-    pub(crate) fn left(&self) -> u64
-        ensures { result ≡ JOURNAL_STEPS - self.now.spent - self.now.lent }
-    {
-        JOURNAL_STEPS - self.spent - self.lent
-    }
-
     /// False: they don't fit beside those spent and lent, and nothing changes.
     pub(crate) fn lend(&mut self, steps: u64) -> bool
         ensures fits { IsTrue result ↔ (self.old.spent + self.old.lent + steps ≤ JOURNAL_STEPS) }

@@ -30,7 +30,7 @@ impl Model for Ledger {
 
 impl Ledger {
     ghost use Rattle.limits.specs.declared.journals.TheConstants.{MAX_STEPS};
-    ghost use Rattle.journal_budget.specs.Ledger.{empty_ledger, left_of, payload_in, with_steps, with_coming};
+    ghost use Rattle.journal_budget.specs.Ledger.{empty_ledger, payload_in, with_steps, with_coming};
     ghost use Rattle.journal_budget.specs.Payload.{next_average_of};
 
     /// The ledger of an empty journal.
@@ -51,15 +51,13 @@ impl Ledger {
         self.steps = self.steps.saturating_add(steps);
     }
 
-    /// Counts a large reply beside all others that are coming. `came` of its bytes have come, `before` at the last
-    /// report.
+    /// `came` bytes of a large reply have come, `before` at the last report.
     pub(crate) fn note_coming(&mut self, came: u64, before: u64)
         ensures { self.new ≡ with_coming came before self.old }
     {
         self.coming = self.coming.saturating_sub(before).saturating_add(came);
     }
 
-    /// Bytes of large replies that are coming.
     pub(crate) fn coming(&self) -> u64
         ensures { result ≡ self.now.coming }
     {
@@ -74,14 +72,7 @@ impl Ledger {
         self.budget.spent()
     }
 
-    /// The steps that may still be lent.
-    pub(crate) fn left(&self) -> u64
-        ensures { result ≡ left_of self.now }
-    {
-        self.budget.left()
-    }
-
-    /// The journal's payload, by the last generation's payload bytes a step.
+    /// `average` is the last generation's payload bytes a step.
     pub(crate) fn payload(&self, average: u64) -> Payload
         ensures { result ≡ payload_in average self.now }
     {

@@ -12,10 +12,6 @@ pub(crate) struct Reported {
     payload: Payload,
     // The owed steps that have payload.
     owed: u64,
-    // The steps left to lend.
-    left: u64,
-    // The bytes of large replies that are coming.
-    coming: u64,
     average: u64,
     is_far: bool,
 }
@@ -25,18 +21,13 @@ impl Model for Reported {
 
     ghost Value = { ReportedState };
 
-    ghost view = { λ r. record {
-      payload = r.payload;
-      owed = r.owed;
-      left = r.left;
-      coming = r.coming;
-    } };
+    ghost view = { λ r. record { payload = r.payload; owed = r.owed } };
 
     ghost invariant = { λ r. IsReported r.payload r.owed r.average r.is_far };
 }
 
 impl Reported {
-    /// What a ledger says. The last generation had `average` payload bytes a step, and `owed` steps have payload.
+    /// `average` is the last generation's payload bytes a step. `owed` steps have payload.
     pub(crate) fn new(ledger: &Ledger, average: u64, owed: u64) -> Reported
         ensures { result ≡ reported_of average owed ledger.now }
     {
@@ -46,8 +37,6 @@ impl Reported {
         Reported {
             payload,
             owed,
-            left: ledger.left(),
-            coming: ledger.coming(),
             average,
             is_far,
         }

@@ -1,1 +1,2 @@
 pub mod TurnStep
+pub mod LastLedger

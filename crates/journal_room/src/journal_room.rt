@@ -1,7 +1,9 @@
 ghost use Rattle.std.specs.Prelude.{◌≡◌, ◌↔◌, ◌≤◌, ◌<◌, ◌+◌, ◌-◌, ◌/◌, ◌⊎◌, max, IfOk, IsTrue};
 ghost use Rattle.std.specs.Bool.{OnTrue, OnFalse};
 ghost use Rattle.limits.specs.declared.journals.TheConstants.{MAX_COMMAND_STEPS};
-ghost use Rattle.journal_budget.specs.Account.{known, owed_steps};
+ghost use Rattle.crossbeam_utils.specs.Padded.{padded_value};
+ghost use Rattle.journal_budget.specs.Account.{known, owed_steps, reported_to, with_account, with_payload};
+ghost use Rattle.journal_budget.specs.Ledger.{HasLeft, payload_in};
 ghost use Rattle.journal_budget.specs.Budget.{capped, no_loan, free_steps, borrowed};
 ghost use Rattle.journal_budget.specs.Counts.{no_bytes};
 ghost use Rattle.journal_budget.specs.Payload.{HasRoomForCommand, HasRoomForReply, average_of};
@@ -9,13 +11,13 @@ ghost use Rattle.journal_room.specs.declared.journal_room.TheConstants.{LARGE, L
 
 use crate::metered_turns::{HeldTurns, MeteredTurns};
 use crate::open_connections::{OpenConnection, OpenConnections};
+use crate::room_ledger::RoomLedger;
 use crate::unfinished_sum::UnfinishedSum;
 use crossbeam_utils::CachePadded;
-use journal_budget::Ledger;
 use limits::{MAX_COMMAND_STEPS, MAX_UNFINISHED};
 use std::alloc::{AllocError, Global};
+use std::sync::Wait;
 use std::sync::atomic::{AtomicBool, Ordering};
-use std::sync::{Mutex, Wait};
 
 // Payload of this many bytes is reported before room is decided.
 const LARGE: u64 = 65_536;
@@ -33,7 +35,7 @@ pub struct JournalRoom {
     // The last generation's payload bytes a step.
     average: u64,
     open: OpenConnections,
-    ledger: CachePadded<Mutex<Ledger>>,
+    ledger: CachePadded<RoomLedger>,
     // No further commands are accepted, so that accepted ones can be answered before the journal is full.
     is_full: AtomicBool,
     unfinished: CachePadded<UnfinishedSum>,
@@ -62,7 +64,7 @@ impl JournalRoom {
             workers,
             average,
             open: OpenConnections::new(alloc)?,
-            ledger: CachePadded::new(Mutex::new(Ledger::new())),
+            ledger: CachePadded::new(RoomLedger::new()),
             is_full: AtomicBool::new(false),
             unfinished: CachePadded::new(UnfinishedSum::new()),
         })
@@ -73,20 +75,20 @@ impl JournalRoom {
     pub fn settle<R: Wait, T: HeldTurns>(&self, rt: &R, turns: &mut MeteredTurns<T>, reserve: u64)
         ensures turns { turns.new.turns ≡ turns.old.turns }
         ensures counts { turns.new.account.counts ≡ turns.old.account.counts }
-        ensures lent { reserve ≤ turns.new.account.reported.left
-            → turns.new.account.loan ≡ borrowed reserve no_loan }
-        ensures too_few { turns.new.account.reported.left < reserve
-            → turns.new.account.loan ≡ no_loan }
-        ensures average { turns.new.account.reported.payload.before ≡ self.now.average }
+        ensures last { turns.new.last_ledger.name ≡ (padded_value self.now.ledger).name }
+        ensures lent { HasLeft reserve (with_account turns.old.account
+            turns.new.last_ledger.found) → turns.new.account.loan ≡ borrowed reserve no_loan }
+        ensures too_few { (turns.new.account.loan ≡ no_loan)
+            ⊎ HasLeft reserve (with_account turns.old.account turns.new.last_ledger.found) }
+        ensures payload { turns.new.account.reported.payload
+            ≡ payload_in self.now.average
+            (with_account turns.old.account turns.new.last_ledger.found) }
         ensures reported { (turns.new.account.bytes ≡ no_bytes)
             × (turns.new.account.steps ≡ 0) × (turns.new.account.cost ≡ 0) }
     {
         turns.leave();
-        let mut ledger = self.ledger.lock(rt);
-        let ledger = &mut *ledger;
         let open = self.open.count();
-        turns.account.settle(ledger, self.average, open);
-        turns.account.borrow_steps(ledger, reserve);
+        turns.settle(&mut self.ledger.lock(rt), self.average, open, reserve);
     }
 
     /// Lends this many steps. False: too few are left. The turns leave the gate.
@@ -97,12 +99,14 @@ impl JournalRoom {
         steps: u64,
     ) -> bool
         ensures turns { turns.new.turns ≡ turns.old.turns }
+        ensures last { turns.new.last_ledger.name ≡ (padded_value self.now.ledger).name }
+        ensures fits { IsTrue result ↔ HasLeft steps turns.new.last_ledger.found }
         ensures lent { OnTrue result (turns.new.account
             ≡ record turns.old.account { loan = borrowed steps turns.old.account.loan }) }
         ensures unchanged { OnFalse result (turns.new.account ≡ turns.old.account) }
     {
         turns.leave();
-        turns.account.borrow_steps(&mut self.ledger.lock(rt), steps)
+        turns.borrow_steps(&mut self.ledger.lock(rt), steps)
     }
 
     /// Lends steps until the worker has enough for any command beside the reserve. False: too few are left. The turns
@@ -114,6 +118,8 @@ impl JournalRoom {
         reserve: u64,
     ) -> bool
         ensures turns { turns.new.turns ≡ turns.old.turns }
+        ensures last { ((turns.new ≡ turns.old) × IsTrue result)
+            ⊎ (turns.new.last_ledger.name ≡ (padded_value self.now.ledger).name) }
         ensures enough { IsTrue result
             ↔ (capped (reserve + MAX_COMMAND_STEPS) ≤ free_steps turns.new.account.loan) }
         ensures account { turns.new.account
@@ -128,8 +134,8 @@ impl JournalRoom {
         turns.leave();
         let mut ledger = self.ledger.lock(rt);
         let ledger = &mut *ledger;
-        let is_lent = turns.account.borrow_steps(ledger, many.max(missing))
-            || turns.account.borrow_steps(ledger, missing);
+        let is_lent = turns.borrow_steps(ledger, many.max(missing))
+            || turns.borrow_steps(ledger, missing);
         is_lent && turns.free_steps() >= least
     }
 
@@ -144,6 +150,8 @@ impl JournalRoom {
     ) -> bool
         ensures turns { turns.new.turns ≡ turns.old.turns }
         ensures counts { turns.new.account.counts ≡ turns.old.account.counts }
+        ensures last { (turns.new ≡ turns.old)
+            ⊎ (turns.new.last_ledger.name ≡ (padded_value self.now.ledger).name) }
         ensures takes { IsTrue result
             ↔ ((capped (reserve + MAX_COMMAND_STEPS) ≤ free_steps turns.new.account.loan)
             × HasRoomForCommand (known turns.new.account) (owed_steps turns.new.account)
@@ -155,12 +163,12 @@ impl JournalRoom {
             → average_of turns.old.account.reported.payload < LARGE_STEP
             → turns.new.account ≡ record turns.old.account { loan = turns.new.account.loan } }
     {
-        if unfinished.max(turns.account.unreported_bytes()) >= LARGE
-            || turns.account.average() >= LARGE_STEP
+        if unfinished.max(turns.account().unreported_bytes()) >= LARGE
+            || turns.account().average() >= LARGE_STEP
         {
             self.settle(rt, turns, reserve);
         }
-        self.lend(rt, turns, reserve) && turns.account.has_room_for_command(unfinished)
+        self.lend(rt, turns, reserve) && turns.account().has_room_for_command(unfinished)
     }
 
     /// Whether there is room for a reply of which `came` bytes have come, and the other workers know of `reported`. A
@@ -178,36 +186,33 @@ impl JournalRoom {
         ensures room { IsTrue result → HasRoomForReply (known turns.new.account) came }
         ensures beside { LARGE ≤ max (max came reported.old) turns.old.account.bytes.kept
             → (IsTrue result ↔ HasRoomForReply (known turns.new.account)
-            (capped (turns.new.account.reported.coming - reported.old + came))) }
-        ensures average { LARGE ≤ max (max came reported.old) turns.old.account.bytes.kept
-            → turns.new.account.reported.payload.before ≡ self.now.average }
+            (capped (turns.new.last_ledger.found.coming - reported.old + came))) }
         ensures small { max (max came reported.old) turns.old.account.bytes.kept < LARGE
             → (turns.new ≡ turns.old) × (reported.new ≡ reported.old)
             × (IsTrue result ↔ HasRoomForReply (known turns.old.account) came) }
         ensures large { LARGE ≤ max (max came reported.old) turns.old.account.bytes.kept
-            → (reported.new ≡ came) × (turns.new.account.bytes ≡ no_bytes) }
+            → (turns.new.last_ledger.name ≡ (padded_value self.now.ledger).name)
+            × (reported.new ≡ came) × (turns.new.account
+            ≡ reported_to (with_payload turns.old.account turns.new.last_ledger.found)
+            self.now.average turns.old.account.reported.owed turns.old.account) }
     {
-        if came.max(*reported).max(turns.account.unreported_bytes()) < LARGE {
-            return turns.account.has_room_for_reply(came);
+        if came.max(*reported).max(turns.account().unreported_bytes()) < LARGE {
+            return turns.account().has_room_for_reply(came);
         }
         turns.leave();
-        let mut ledger = self.ledger.lock(rt);
-        let ledger = &mut *ledger;
-        turns
-            .account
-            .report_reply(ledger, self.average, came, reported)
+        turns.report_reply(&mut self.ledger.lock(rt), self.average, came, reported)
     }
 
     /// The steps made or owed, by the workers' reports.
     pub fn spent<R: Wait>(&self, rt: &R) -> u64 {
-        self.ledger.lock(rt).spent()
+        self.ledger.lock(rt).ledger.spent()
     }
 
     /// The payload bytes a step that the next generation starts with: at least half of what this one started with.
     pub fn average<R: Wait>(&self, rt: &R) -> u64
         ensures { self.now.average / 2 ≤ result }
     {
-        self.ledger.lock(rt).next_average(self.average)
+        self.ledger.lock(rt).ledger.next_average(self.average)
     }
 
     /// Whether no further commands are accepted.

@@ -1,12 +1,12 @@
 //! Room in the journal of a generation, shared by its workers.
 //!
 //! A worker's [`MeteredTurns`] count its steps and payload without a lock, and report to the [`JournalRoom`] now and
-//! then. It stands on `journal_budget`. That all reports together are the journal's isn't proved. Begin with
-//! `journal_room.rt`.
+//! then. It stands on `journal_budget`. That the lock gives the room's own ledger, as the last worker left it, isn't
+//! proved. Begin with `journal_room.rt`.
 //!
 //! ```text
 //! MAX_STEPS and MAX_BYTES of a journal
-//!   Ledger, behind the lock of JournalRoom: what all workers spent, have lent and brought
+//!   Ledger, behind the lock of RoomLedger: what all workers spent, have lent and brought
 //!   │ lend, lend_steps                                   ▲ settle, takes_reply
 //!   ▼                                                    │
 //!   Account of MeteredTurns, a worker's own: what it may still spend, and what its turns brought
@@ -19,6 +19,7 @@ mod journal_room;
 mod laws;
 mod metered_turns;
 mod open_connections;
+mod room_ledger;
 mod turn_step;
 mod unfinished_sum;
 

@@ -1,4 +1,5 @@
-ghost use Rattle.std.specs.Prelude.{◌≡◌, IfOk, IfErr};
+ghost use Rattle.std.specs.Prelude.{◌≡◌, ◌↔◌, IfOk, IfErr, IsTrue};
+ghost use Rattle.std.specs.Bool.{OnTrue, OnFalse};
 ghost use Rattle.ticket_gate.specs.Journal.{AddsTurn};
 ghost use Rattle.ticket_gate.specs.Turns.{KeepsPlace, RefusesTurn};
 ghost use Rattle.journal_budget.specs.Account.{no_account};
@@ -6,6 +7,7 @@ ghost use Rattle.journal_budget.specs.Budget.{free_steps};
 ghost use Rattle.journal_budget.specs.Counts.{no_counts};
 ghost use Rattle.journal_room.specs.TurnStep.{brought_by, noted};
 
+use crate::room_ledger::{LastLedger, NamedLedger};
 use crate::turn_step::{bytes_of, note_turn};
 use journal_budget::{Account, TurnCounts};
 use proxy_core::{Answer, CoreState, CoreTurns, Event, Refusal};
@@ -37,7 +39,8 @@ impl<'a, S: CoreState> HeldTurns for Seated<'a, S> {
 #[derive(Drop)]
 pub struct MeteredTurns<T: CoreTurns> {
     turns: T,
-    pub(crate) account: Account,
+    account: Account,
+    last_ledger: LastLedger,
 }
 
 impl<T: CoreTurns> MeteredTurns<T> {
@@ -49,6 +52,7 @@ impl<T: CoreTurns> MeteredTurns<T> {
         MeteredTurns {
             turns,
             account: Account::new(),
+            last_ledger: LastLedger::none(),
         }
     }
 
@@ -97,6 +101,90 @@ impl<T: CoreTurns> MeteredTurns<T> {
         ensures { result ≡ free_steps self.now.account.loan }
     {
         self.account.free_steps()
+    }
+
+    #[inline(always)]
+    pub(crate) fn account(&self) -> &Account
+        ensures { result.now ≡ self.now.account }
+    {
+        &self.account
+    }
+}
+
+// With a ledger: each notes how it found it.
+impl<T: CoreTurns> MeteredTurns<T> {
+    ghost use Rattle.journal_budget.specs.Account.{known, reported_to, settled_with, with_account, with_payload};
+    ghost use Rattle.journal_budget.specs.Budget.{borrowed, no_loan};
+    ghost use Rattle.journal_budget.specs.Ledger.{HasLeft, lends_more, with_coming};
+    ghost use Rattle.journal_budget.specs.Payload.{HasRoomForReply};
+
+    /// False: that many aren't left, and none is lent.
+    pub(crate) fn borrow_steps(&mut self, named: &mut NamedLedger, steps: u64) -> bool
+        ensures turns { self.new.turns ≡ self.old.turns }
+        ensures last { self.new.last_ledger
+            ≡ record { name = named.old.name.value; found = named.old.ledger } }
+        ensures fits { IsTrue result ↔ HasLeft steps named.old.ledger }
+        ensures loan { OnTrue result (self.new.account
+            ≡ record self.old.account { loan = borrowed steps self.old.account.loan }) }
+        ensures lent { OnTrue result (named.new
+            ≡ record named.old { ledger = lends_more steps named.old.ledger }) }
+        ensures unchanged { OnFalse result ((self.new.account ≡ self.old.account)
+            × (named.new ≡ named.old)) }
+    {
+        self.last_ledger = LastLedger::found(named);
+        self.account.borrow_steps(&mut named.ledger, steps)
+    }
+
+    /// As [`Account::settle`]. Then it borrows this reserve. False: that many steps aren't left.
+    pub(crate) fn settle(
+        &mut self,
+        named: &mut NamedLedger,
+        average: u64,
+        connections: u64,
+        reserve: u64,
+    ) -> bool
+        ensures turns { self.new.turns ≡ self.old.turns }
+        ensures last { self.new.last_ledger
+            ≡ record { name = named.old.name.value; found = named.old.ledger } }
+        ensures fits { IsTrue result
+            ↔ HasLeft reserve (with_account self.old.account named.old.ledger) }
+        ensures account { self.new.account ≡ record (settled_with
+            (with_account self.old.account named.old.ledger) average connections self.old.account)
+            { loan = self.new.account.loan } }
+        ensures lent { OnTrue result ((self.new.account.loan ≡ borrowed reserve no_loan)
+            × (named.new.ledger
+            ≡ lends_more reserve (with_account self.old.account named.old.ledger))) }
+        ensures not_lent { OnFalse result ((self.new.account.loan ≡ no_loan)
+            × (named.new.ledger ≡ with_account self.old.account named.old.ledger)) }
+    {
+        self.last_ledger = LastLedger::found(named);
+        self.account.settle(&mut named.ledger, average, connections);
+        self.account.borrow_steps(&mut named.ledger, reserve)
+    }
+
+    /// As [`Account::report_reply`].
+    pub(crate) fn report_reply(
+        &mut self,
+        named: &mut NamedLedger,
+        average: u64,
+        came: u64,
+        reported: &mut u64,
+    ) -> bool
+        ensures turns { self.new.turns ≡ self.old.turns }
+        ensures last { self.new.last_ledger
+            ≡ record { name = named.old.name.value; found = named.old.ledger } }
+        ensures account { self.new.account ≡ reported_to
+            (with_payload self.old.account named.old.ledger) average
+            self.old.account.reported.owed self.old.account }
+        ensures ledger { named.new.ledger
+            ≡ with_coming came reported.old (with_payload self.old.account named.old.ledger) }
+        ensures reported { reported.new ≡ came }
+        ensures room { IsTrue result
+            ↔ HasRoomForReply (known self.new.account) named.new.ledger.coming }
+    {
+        self.last_ledger = LastLedger::found(named);
+        self.account
+            .report_reply(&mut named.ledger, average, came, reported)
     }
 }
 
