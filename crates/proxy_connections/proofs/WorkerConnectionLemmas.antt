@@ -297,6 +297,11 @@ module _ {place : Place} {settings : List Host} (clients : Slab ClientConnection
 one_at : (clients : Slab ClientConnection) (key : ℕ) (one two : ClientConnection) → IsAt clients key one → IsAt clients key two → one ≡ two
 one_at clients key one two first second = cc
 
+-- a client that was inserted stands under the key that was the next one
+pub has_come : (old new : Slab ClientConnection) (key : ℕ) (client : ClientConnection) → key ≡ old.vacant_key → Updates old new key (Some client)
+    → (kept : ClientConnection) × IsAt new old.vacant_key kept
+has_come old new key client is updates = (client, subst (λ (k : ℕ). get new k ≡ Some client) is updates.changed)
+
 -- what a round says of the client at a key holds once that stands there
 pub lets_go : (clients : Slab ClientConnection) (key : ℕ) (one two : ClientConnection) → IsAt clients key one → (r : Result Stepped StepError)
     → (r ≡ Ok Stepped.Closed → (is_lingering two.stage ≡ true) × HasPassedAll two.engine.outbox)

@@ -12,7 +12,8 @@ use Rattle.proxy_server.specs.contracts.living.Living as Living
 use Rattle.proxy_server.specs.contracts.stats.Stats as Stats
 use Rattle.proxy_server.specs.contracts.stop.Stop as Stop
 use Rattle.proxy_serve_core.specs.contracts.ejection_log.EjectionLog as EjectionLog
-use Rattle.proxy_serve_core.specs.contracts.sockets.Sockets as Sockets
+use Rattle.open_sockets.specs.contracts.open_sockets.AdmittedStream as AdmittedStream
+use Rattle.open_sockets.specs.contracts.open_sockets.OpenSockets as OpenSockets
 
 handover_send : IsSend Handover.the_row
 handover_send = search (crosses, sendable) depth 40 fits 20000
@@ -35,14 +36,17 @@ living_send = search (crosses, sendable) depth 40 fits 20000
 stats_send : IsSend Stats.the_row
 stats_send = search (living_send, crosses, sendable) depth 40 fits 20000
 
-sockets_send : IsSend Sockets.the_row
-sockets_send = search (crosses, sendable) depth 30 fits 20000
+sockets_sync : IsSync OpenSockets.the_row
+sockets_sync = search (crosses, sendable) depth 40 fits 20000
+
+admitted_send : IsSend AdmittedStream.the_row
+admitted_send = search (crosses, sendable) depth 40 fits 20000
 
 ejections_send : IsSend EjectionLog.the_row
 ejections_send = search (crosses, sendable) depth 30 fits 20000
 
 queue_sync : (C : RattleType) → IsSend C → IsSync (AcceptQueue.the_row C)
-queue_sync C s = search (crosses, sendable) depth 40 fits 20000
+queue_sync C s = search (admitted_send, crosses, sendable) depth 40 fits 20000
 
 pub server_sync : (C : RattleType) → IsSend C → IsSync (Server.the_row C)
-server_sync C s = search (generations_send, stats_send, ejections_send, sockets_send, queue_sync, stop_send, crosses, sendable) depth 40 fits 20000
+server_sync C s = search (generations_send, stats_send, ejections_send, sockets_sync, queue_sync, stop_send, crosses, sendable) depth 40 fits 20000
