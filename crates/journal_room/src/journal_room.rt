@@ -4,6 +4,7 @@ ghost use Rattle.limits.specs.declared.journals.TheConstants.{MAX_COMMAND_STEPS}
 ghost use Rattle.crossbeam_utils.specs.Padded.{padded_value};
 ghost use Rattle.journal_budget.specs.Account.{known, owed_steps, reported_to, with_account, with_payload};
 ghost use Rattle.journal_budget.specs.Ledger.{HasLeft, payload_in};
+ghost use Rattle.journal_room.specs.LastLedger.{LendsAtLeast};
 ghost use Rattle.journal_budget.specs.Budget.{capped, no_loan, free_steps, borrowed};
 ghost use Rattle.journal_budget.specs.Counts.{no_bytes};
 ghost use Rattle.journal_budget.specs.Payload.{HasRoomForCommand, HasRoomForReply, average_of};
@@ -124,6 +125,10 @@ impl JournalRoom {
             ↔ (capped (reserve + MAX_COMMAND_STEPS) ≤ free_steps turns.new.account.loan) }
         ensures account { turns.new.account
             ≡ record turns.old.account { loan = turns.new.account.loan } }
+        ensures lent { let missing = capped (reserve + MAX_COMMAND_STEPS)
+            - free_steps turns.old.account.loan in
+            0 < missing → HasLeft missing turns.new.last_ledger.found
+            → LendsAtLeast missing turns.old.account.loan turns.new.account.loan }
     {
         let least = reserve.saturating_add(MAX_COMMAND_STEPS);
         if turns.free_steps() >= least {
@@ -132,11 +137,8 @@ impl JournalRoom {
         let many = (MAX_LENT / self.workers.max(1)).clamp(MAX_COMMAND_STEPS, 2 * MAX_COMMAND_STEPS);
         let missing = least.saturating_sub(turns.free_steps());
         turns.leave();
-        let mut ledger = self.ledger.lock(rt);
-        let ledger = &mut *ledger;
-        let is_lent = turns.borrow_steps(ledger, many.max(missing))
-            || turns.borrow_steps(ledger, missing);
-        is_lent && turns.free_steps() >= least
+        turns.borrow_at_least(&mut self.ledger.lock(rt), missing, many);
+        turns.free_steps() >= least
     }
 
     /// Whether there is room for a further command, beside the reserve. `unfinished` bytes of the client's commands

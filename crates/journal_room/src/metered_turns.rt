@@ -116,6 +116,7 @@ impl<T: CoreTurns> MeteredTurns<T> {
     ghost use Rattle.journal_budget.specs.Account.{known, reported_to, settled_with, with_account, with_payload};
     ghost use Rattle.journal_budget.specs.Budget.{borrowed, no_loan};
     ghost use Rattle.journal_budget.specs.Ledger.{HasLeft, lends_more, with_coming};
+    ghost use Rattle.journal_room.specs.LastLedger.{LendsAtLeast};
     ghost use Rattle.journal_budget.specs.Payload.{HasRoomForReply};
 
     /// False: that many aren't left, and none is lent.
@@ -133,6 +134,21 @@ impl<T: CoreTurns> MeteredTurns<T> {
     {
         self.last_ledger = LastLedger::found(named);
         self.account.borrow_steps(&mut named.ledger, steps)
+    }
+
+    /// Borrows `many` steps, or `least` if these are more or so many aren't left.
+    pub(crate) fn borrow_at_least(&mut self, named: &mut NamedLedger, least: u64, many: u64)
+        ensures turns { self.new.turns ≡ self.old.turns }
+        ensures last { self.new.last_ledger
+            ≡ record { name = named.old.name.value; found = named.old.ledger } }
+        ensures account { self.new.account
+            ≡ record self.old.account { loan = self.new.account.loan } }
+        ensures lent { HasLeft least named.old.ledger
+            → LendsAtLeast least self.old.account.loan self.new.account.loan }
+    {
+        if !self.borrow_steps(named, many.max(least)) {
+            self.borrow_steps(named, least);
+        }
     }
 
     /// As [`Account::settle`]. Then it borrows this reserve. False: that many steps aren't left.
