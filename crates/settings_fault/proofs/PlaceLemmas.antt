@@ -1,5 +1,5 @@
 -- Where the last line begins.
-use Rattle.std.proofs.Common.{◌≡◌, ◌∙◌, ◌<◌, ◌≤◌, ◌-◌, ℕ, List, true, false, take, drop, length, get_or, arith, sym, not}
+use Rattle.std.proofs.Common.{◌≡◌, ◌∙◌, ◌<◌, ◌≤◌, ◌-◌, ℕ, List, true, false, take, drop, length, get_or, arith, sym, not, length-drop}
 use Rattle.std.specs.List.{after_last, suffix_len}
 use Rattle.std.proofs.lemmas.List.{take_all}
 use Rattle.std.proofs.lemmas.List.Sums.{suffix_len_is}
@@ -13,4 +13,5 @@ pub after_last_is : (text : List ℕ) (start : ℕ) → start ≤ length text
 after_last_is text start inside no_break broken =
     let len : suffix_len (λ x. not (is_line_break x)) text ≡ length text - start = suffix_len_is (λ x. not (is_line_break x)) text start 0 inside no_break broken in
     let back : length text - suffix_len (λ x. not (is_line_break x)) text ≡ start = omega (arith, len, inside) in
-    rw back (grind (arith, take_all))
+    let all : take (length text - start) (drop start text) ≡ drop start text = take_all (length text - start) (drop start text) (rw (length-drop start text) (omega arith)) in
+    rw back all

@@ -1,9 +1,11 @@
 -- What can be printed.
-use Rattle.std.proofs.Common.{◌≡◌, ◌∙◌, ◌++◌, ◌≤◌, ◌<◌, ◌+◌, ◌^◌, ◌⊎◌, ℕ, List, [], ◌∷◌, true, length, get_or, refl, arith, ◌&&◌, inl, inr}
-use Rattle.std.specs.Prelude.{encode_utf8}
-use Rattle.std.specs.Fmt.{decimal, IsBoundedDecimal}
+use Rattle.std.proofs.Common.{◌≡◌, ◌∙◌, ◌++◌, ◌≤◌, ◌<◌, ◌+◌, ◌^◌, ◌⊎◌, ℕ, zero, suc, List, [], ◌∷◌, true, map, refl, arith, inl}
+use Rattle.std.specs.Prelude.{decimal}
+use Rattle.std.specs.Char.{encode_utf8}
 use Rattle.std.specs.List.{list_all}
-use Rattle.core.proofs.fmt.Decimal.{decimal_is_bounded}
+use Rattle.std.specs.Int.Digits.{AllBelowBase, digits_of}
+use Rattle.std.proofs.lemmas.Fmt.{decimal_digit, decimal-digits_of}
+use Rattle.std.proofs.lemmas.Int.Digits.{all_below_base_digits_of}
 use Rattle.std.proofs.lemmas.List.Folds.{list_all-append}
 use Rattle.settings_fault.specs.Lines.{is_printable, ArePrintable}
 
@@ -15,19 +17,19 @@ printable_append xs ys front back = list_all-append is_printable xs ys ∙ grind
 pub printable_byte : (b : ℕ) → 32 ≤ b → (b < 127) ⊎ (128 ≤ b) → is_printable b ≡ true
 printable_byte b low high = grind (arith, low, high)
 
--- bytes that are so one by one
-pub printable_each : (xs : List ℕ) → ((k : ℕ) → k < length xs → is_printable (get_or xs k 0) ≡ true) → ArePrintable xs
-printable_each [] each = refl
-printable_each (x ∷ xs) each =
-    let first : is_printable x ≡ true = each 0 (omega arith) in
-    let rest : ArePrintable xs = printable_each xs (λ k below. each (k + 1) (omega (arith, below))) in
+-- digits
+pub printable_digits : (ds : List ℕ) → AllBelowBase 10 ds → ArePrintable (map (λ d. 48 + d) ds)
+printable_digits [] below = refl
+printable_digits (d ∷ ds) below =
+    let first : is_printable (48 + d) ≡ true = printable_byte (48 + d) (omega arith) (inl (omega (arith, below.0))) in
+    let rest : ArePrintable (map (λ d. 48 + d) ds) = printable_digits ds below.1 in
     grind (arith, first, rest)
 
 -- the digits of a number
 pub printable_decimal : (n : ℕ) → n < 2 ^ 64 → ArePrintable (decimal n)
-printable_decimal n small =
-    let d : IsBoundedDecimal n = decimal_is_bounded n small in
-    printable_each (decimal n) (λ k below. printable_byte _ (omega (arith, (d.all_digits k below).0)) (inl (omega (arith, (d.all_digits k below).1))))
+printable_decimal zero small = rw (decimal_digit 0 (omega arith)) refl
+printable_decimal (suc n) small =
+    rw (decimal-digits_of (suc n) (omega arith) small) (printable_digits (digits_of 10 (suc n)) (all_below_base_digits_of 10 (suc n) (omega arith)))
 
 -- a character that is no control character
 pub printable_character : (c : ℕ) → ((32 ≤ c) × (c < 127)) ⊎ (160 ≤ c) → ArePrintable (encode_utf8 c)

@@ -113,11 +113,11 @@ impl File<'_> {
         };
         let found = shown(alloc, part.of(self.text))?;
         let times = self.times(key);
-        let rest = if times > 1 {
-            format!(in alloc; " (the last of {times}) is {found}; wanted: {wanted}")?
-        } else {
-            format!(in alloc; " is {found}; wanted: {wanted}")?
-        };
+        if times > 1 {
+            let rest = format!(in alloc; " (the last of {times}) is {found}; wanted: {wanted}")?;
+            return self.told(alloc, key, part.start, rest.as_str());
+        }
+        let rest = format!(in alloc; " is {found}; wanted: {wanted}")?;
         self.told(alloc, key, part.start, rest.as_str())
     }
 

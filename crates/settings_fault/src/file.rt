@@ -1,3 +1,5 @@
+ghost use Rattle.std.specs.Prelude.{◌≡◌, IfOk};
+
 use crate::scan::{Entry, Wants, entries};
 use crate::token::{Refusal, Span, refused, text_of};
 use crate::wanted::Wanted;
@@ -21,7 +23,9 @@ pub(crate) struct File<'a> {
 
 impl<'a> File<'a> {
     /// The file of this text, or the first place where it is no JSON object.
-    pub(crate) fn read(alloc: Global, text: &'a [u8]) -> Result<File<'a>, Refusal> {
+    pub(crate) fn read(alloc: Global, text: &'a [u8]) -> Result<File<'a>, Refusal>
+        ensures { IfOk result (λ read. read.text.now ≡ text.now) }
+    {
         if let Err(error) = from_utf8(text) {
             let start = error.valid_up_to();
             return Err(refused(start, start + 1, Wanted::Utf8));

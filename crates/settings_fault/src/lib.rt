@@ -18,8 +18,6 @@ mod file;
 mod place;
 mod scan;
 mod shown;
-#[cfg(test)]
-mod tests;
 mod token;
 mod wanted;
 

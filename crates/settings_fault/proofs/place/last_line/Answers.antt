@@ -1,4 +1,4 @@
-use Rattle.std.proofs.Common.{◌≡◌, ◌≤◌, length, arith}
+use Rattle.std.proofs.Common.{◌≡◌, length, arith}
 use Rattle.settings_fault.proofs.PlaceLemmas.{after_last_is}
 use Rattle.settings_fault.proofs.place.last_line.Goals as goal
 
