@@ -2,6 +2,7 @@
 //! `settings_fault`, `proxy_command_line` and `proxy_exit_status`. Begin with `run`; `serve` is in `proxy_serve`, `local`
 //! in `proxy_local`.
 #![tactic(auto)]
+
 ghost use Rattle.std.specs.Prelude.{◌≡◌};
 ghost use Rattle.proxy_exit_status.specs.Ending.{status_of};
 

@@ -60,8 +60,9 @@ impl File<'_> {
         let entries = self.entries(alloc, key)?;
         let (count, hosts) = (entries.len(), self.entries(alloc, "hosts")?.len());
         if count != hosts {
-            let rest =
-                format!(in alloc; " has {count} entries, hosts has {hosts}; wanted: {wanted}")?;
+            let rest = format!(in alloc;
+                " has {count} entries, hosts has {hosts}; wanted: {wanted}"
+            )?;
             return self.told(alloc, key, self.start(key), rest.as_str());
         }
         for (index, entry) in entries.iter().enumerate() {
@@ -118,7 +119,9 @@ fn is_weight(alloc: Global, bytes: &[u8]) -> Result<bool, AllocError> {
     let Some(value) = value_of(alloc, bytes)? else {
         return Ok(false);
     };
-    Ok(value
-        .as_u64()
-        .is_some_and(|weight| (1..=u64::from(MAX_WEIGHT)).contains(&weight)))
+    Ok(
+        value
+            .as_u64()
+            .is_some_and(|weight| (1..=u64::from(MAX_WEIGHT)).contains(&weight)),
+    )
 }

@@ -115,7 +115,10 @@ pub(crate) fn token_end(text: &[u8], start: usize) -> usize {
 // Where a blank or a sign ends a word. A sign is a word of its own.
 fn word_end(text: &[u8], start: usize) -> usize {
     let rest = text.get(start..).unwrap_or(&[]);
-    let len = rest.iter().position(|byte| is_end(*byte)).unwrap_or(rest.len());
+    let len = rest
+        .iter()
+        .position(|byte| is_end(*byte))
+        .unwrap_or(rest.len());
     start + len.max(1).min(rest.len())
 }
 

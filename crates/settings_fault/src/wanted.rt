@@ -3,7 +3,8 @@ ghost use Rattle.std.specs.Prelude.{IfSome};
 ghost use Rattle.settings_fault.specs.Lines.{ArePrintable};
 
 /// The keys of the table.
-pub(crate) const KEYS: &str = "listen, hosts, weights, workers, reply_ms, tags, interval_ms, base_ms, max_ms, max_percent, consecutive, success_hosts, request_volume, factor or panic_percent";
+pub(crate) const KEYS: &str =
+    "listen, hosts, weights, workers, reply_ms, tags, interval_ms, base_ms, max_ms, max_percent, consecutive, success_hosts, request_volume, factor or panic_percent";
 
 /// What an address is.
 pub(crate) const ADDRESS: &str = "an address and a port, as 10.0.0.1:6379 or [::1]:6379";
