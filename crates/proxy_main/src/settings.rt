@@ -1,5 +1,5 @@
-//! The settings file of `serve` and `check`. What is wrong with it is logged twice: for a person with its place, and in
-//! the last line for programs.
+//! The settings file of `serve` and `check`. What is wrong with it is logged for people, with its place, and in the last
+//! line for programs.
 
 use proxy_config::{Config, ConfigError, check_line};
 use proxy_exit_status::Ending;
@@ -11,7 +11,7 @@ use std::{fs, io};
 // The status of bad settings.
 const BAD_SETTINGS: u8 = 3;
 
-/// The settings in the file at this path. What is wrong with them is logged; `Err` has the status to end with.
+/// The settings in this file. What is wrong with them is logged; `Err` has the status to end with.
 pub(crate) fn settings_of<R: Runtime + AllocGlobal>(
     rt: &R,
     log: Log,
@@ -21,7 +21,7 @@ pub(crate) fn settings_of<R: Runtime + AllocGlobal>(
     settings_in(rt, log, path, bytes.as_slice())
 }
 
-/// The line of `check` for the settings in the file at this path, as [`settings_of`] returns these.
+/// The line of `check` for the settings that [`settings_of`] returns.
 pub(crate) fn checked<R: Runtime + AllocGlobal>(
     rt: &R,
     log: Log,
