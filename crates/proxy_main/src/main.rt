@@ -1,14 +1,17 @@
-//! `redproxy`: a proxy that clients use as one Redis server. It stands on `proxy_serve`, `proxy_local`,
-//! `proxy_config`, `proxy_command_line` and `proxy_exit_status`. Begin with `run`; `serve` is in `proxy_serve`, `local`
+//! `redproxy`: a proxy that clients use as one Redis server. It stands on `proxy_serve`, `proxy_local`, `proxy_config`,
+//! `settings_fault`, `proxy_command_line` and `proxy_exit_status`. Begin with `run`; `serve` is in `proxy_serve`, `local`
 //! in `proxy_local`.
 #![tactic(auto)]
 
 ghost use Rattle.std.specs.Prelude.{◌≡◌};
 ghost use Rattle.proxy_exit_status.specs.Ending.{status_of};
 
+mod settings;
+
+use crate::settings::{checked, settings_of};
 use mio::net::TcpListener;
 use proxy_command_line::{Action, CommandLineError, KIT, VERSION};
-use proxy_config::{Config, ConfigError, check_line};
+use proxy_config::Config;
 use proxy_exit_status::Ending;
 use proxy_local::local_run;
 use proxy_serve::{Admin, Level, Log, Marks, Options, Stop, serve};
@@ -20,13 +23,10 @@ use std::random::RandomSource;
 use std::rt::Runtime;
 use std::sync::Wait;
 use std::thread::Threads;
-use std::{env, fs, io};
+use std::{env, io};
 
 // The status of a bad command line.
 const BAD_COMMAND_LINE: u8 = 2;
-
-// The status of bad settings.
-const BAD_SETTINGS: u8 = 3;
 
 // Serves one client on standard input and output. Returns the status.
 fn run_local<R: Runtime + AllocGlobal + Wait>(rt: &R) -> u8 {
@@ -36,24 +36,15 @@ fn run_local<R: Runtime + AllocGlobal + Wait>(rt: &R) -> u8 {
     }
 }
 
-// Prints the settings file's line or its first error. Returns the status.
+// Prints the settings file's line, or what is wrong with it. Returns the status.
 fn run_check<R: Runtime + AllocGlobal>(rt: &R, config: &str) -> u8 {
-    match checked(rt, config) {
+    match checked(rt, Log::new(false), config) {
         Ok(line) => match print!(rt; "{line}") {
             Ok(()) => 0,
             Err(_) => ended(rt, Ending::Socket),
         },
-        Err(ConfigError::Memory) => ended(rt, Ending::Memory),
-        Err(fault) => {
-            let _ = eprintln!(rt; "{fault}");
-            BAD_SETTINGS
-        }
+        Err(status) => status,
     }
-}
-
-fn checked<R: Runtime + AllocGlobal>(rt: &R, config: &str) -> Result<String, ConfigError> {
-    let bytes = read_file(rt, config)?;
-    check_line(rt.alloc(), bytes.as_slice())
 }
 
 // Serves clients on the settings' address. Returns the status.
@@ -68,14 +59,9 @@ fn run_serve<
         + Sync,
 >(rt: &R, config: &str, connections: u64, metrics: Option<SocketAddr>) -> u8 {
     let log = log(rt);
-    let config = match settings_of(rt, config) {
+    let config = match settings_of(rt, log, config) {
         Ok(config) => config,
-        Err(ConfigError::Memory) => return stopped(rt, log, Stop::from(Ending::Memory)),
-        Err(fault) => {
-            let tag = log.tag(Level::Error);
-            let _ = eprintln!(rt; "{tag}{fault}");
-            return BAD_SETTINGS;
-        }
+        Err(status) => return status,
     };
     match serve_by(rt, config, log, connections, metrics) {
         Ok(()) => 0,
@@ -149,19 +135,6 @@ fn admin<R: Runtime + RandomSource + Net>(
 // Under systemd, lines begin with their level.
 fn log<R: Runtime + AllocGlobal>(rt: &R) -> Log {
     Log::new(env::var(rt, "JOURNAL_STREAM").is_ok())
-}
-
-fn settings_of<R: Runtime + AllocGlobal>(rt: &R, config: &str) -> Result<Config, ConfigError> {
-    let bytes = read_file(rt, config)?;
-    Config::read(rt.alloc(), bytes.as_slice())
-}
-
-fn read_file<R: Runtime + AllocGlobal>(rt: &R, path: &str) -> Result<Vec<u8>, ConfigError> {
-    match fs::read(rt, path) {
-        Ok(bytes) => Ok(bytes),
-        Err(error) if error.kind() == io::ErrorKind::OutOfMemory => Err(ConfigError::Memory),
-        Err(_) => Err(ConfigError::Fault("file")),
-    }
 }
 
 // Logs why the program ends. Returns the status.
