@@ -1,0 +1,43 @@
+ghost use Rattle.std.specs.Prelude.{◌≡◌};
+ghost use Rattle.key_owners.specs.declared.error.KeyFault.TheVariants.{NoMemory};
+
+use std::alloc::{AllocError, AllocFailed};
+use thiserror::Error;
+
+/// Why the lines of keys end early.
+#[derive(Clone, Copy, Debug, PartialEq, Eq, Drop, Error)]
+pub enum KeyFault {
+    /// Memory was refused.
+    #[error("out of memory")]
+    NoMemory,
+
+    /// The key of this line, from 1 on, has more than [`MAX_BULK`](limits::MAX_BULK) bytes.
+    #[error("line {line}: the key has more than 1048576 bytes")]
+    TooLong {
+        /// The line's number.
+        line: u64,
+    },
+
+    /// This line, from 1 on, isn't pairs of hexadecimal digits.
+    #[error("line {line}: no pairs of hexadecimal digits")]
+    NotHex {
+        /// The line's number.
+        line: u64,
+    },
+}
+
+impl From<AllocError> for KeyFault {
+    ghost from_gives = { λ _ e. e ≡ NoMemory };
+
+    fn from(_error: AllocError) -> KeyFault {
+        KeyFault::NoMemory
+    }
+}
+
+impl<T: Drop> From<AllocFailed<T>> for KeyFault {
+    ghost from_gives = { λ _ e. e ≡ NoMemory };
+
+    fn from(_error: AllocFailed<T>) -> KeyFault {
+        KeyFault::NoMemory
+    }
+}
