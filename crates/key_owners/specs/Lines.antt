@@ -103,3 +103,17 @@ abbrev pub IsNoLastKey : Telling → KeyFault → Type 0
 IsNoLastKey telling KeyFault.NoMemory = ⊤
 IsNoLastKey telling (KeyFault.TooLong line) = ⊥
 IsNoLastKey telling (KeyFault.NotHex line) = (line ≡ number_of telling) × IsNoKey telling
+
+-- two pieces, one after the other, are taken in as one
+abbrev pub PiecesJoin : Telling → Telling → Telling → List ℕ → List ℕ → List ℕ → List ℕ → Type 0
+PiecesJoin a b c first second told more =
+    TakesIn a first b told → TakesIn b second c more → TakesIn a (first ++ second) c (told ++ more)
+
+-- the text tells of all lines of these bytes, the last one too
+pub record TellsOfAll (start : Telling) (bytes text : List ℕ) : Type 0 where
+  pub end : Telling
+  pub told : List ℕ
+  pub last : List ℕ
+  pub takes : TakesIn start bytes end told
+  pub ends : EndsWith end last
+  pub parts : text ≡ told ++ last

@@ -1,5 +1,5 @@
 -- Which host owns a key while none is ejected.
-use Rattle.std.specs.Prelude.{◌≡◌, ◌↔◌, ℕ, Bool, true, List, length, map, replicate, slice_get, Some, Contains}
+use Rattle.std.specs.Prelude.{◌≡◌, ◌↔◌, ◌<◌, ℕ, Bool, true, List, length, map, replicate, slice_get, Some, Contains}
 use Rattle.ketama.specs.Continuum.{Continuum}
 use Rattle.ketama.specs.Key.{point_of}
 use Rattle.ketama.specs.Ketama.{IsKetamaPair, digest_counts}
@@ -34,3 +34,4 @@ pub record HasOwners (ring : Continuum) (names : List (List ℕ)) (usable : List
   pub all : usable ≡ replicate (length names) true
   pub pair : ℕ × ℕ
   pub some : Contains ring.pairs pair
+  pub within : pair.1 < length names

@@ -1,5 +1,6 @@
 ghost use Rattle.std.specs.Prelude.{◌≡◌};
 ghost use Rattle.key_owners.specs.declared.error.KeyFault.TheVariants.{NoMemory};
+ghost use Rattle.key_owners.specs.declared.error.TellError.TheVariants.{Key};
 
 use std::alloc::{AllocError, AllocFailed};
 use thiserror::Error;
@@ -39,5 +40,33 @@ impl<T: Drop> From<AllocFailed<T>> for KeyFault {
 
     fn from(_error: AllocFailed<T>) -> KeyFault {
         KeyFault::NoMemory
+    }
+}
+
+/// Why a telling of owners ended early.
+#[derive(Clone, Copy, Debug, PartialEq, Eq, Drop, Error)]
+pub enum TellError {
+    /// A line has no key, or memory was refused.
+    #[error("{0}")]
+    Key(KeyFault),
+
+    /// The reader or the writer failed.
+    #[error("a stream failed")]
+    Device,
+}
+
+impl From<KeyFault> for TellError {
+    ghost from_gives = { λ f e. e ≡ Key f };
+
+    fn from(fault: KeyFault) -> TellError {
+        TellError::Key(fault)
+    }
+}
+
+impl From<AllocError> for TellError {
+    ghost from_gives = { λ _ e. e ≡ Key NoMemory };
+
+    fn from(_error: AllocError) -> TellError {
+        TellError::Key(KeyFault::NoMemory)
     }
 }

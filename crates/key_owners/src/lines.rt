@@ -59,6 +59,7 @@ impl KeyLines {
         ensures refused { IfErr result (λ e. MemoryOr e ((text : List ℕ)
             × (out.new.items ≡ out.old.items ++ text) × StopsAt self.old bytes.now self.new text e)) }
     {
+        let _ = &self.line;
         for &byte in bytes {
             self.take_byte(alloc, byte, out)?;
         }
@@ -136,8 +137,9 @@ impl KeyLines {
 }
 
 fn put_owner(line: &[u8], name: &[u8], out: &mut Vec<u8>) -> Result<(), KeyFault>
-    ensures { OnOk result (out.new.items
+    ensures ok { OnOk result (out.new.items
         ≡ out.old.items ++ (line.now ++ tab ∷ (name.now ++ newline ∷ []))) }
+    ensures memory { IfErr result (λ e. e ≡ KeyFault.NoMemory) }
 {
     out.extend_from_slice(line)?;
     out.push(b'\t')?;

@@ -1,0 +1,72 @@
+//! The owners of all keys that a reader has.
+ghost use Rattle.std.specs.Prelude.{◌≡◌, ◌++◌, List, ℕ, IfSome, OnOk};
+ghost use Rattle.std.specs.Io.KnownBytes.{Appends};
+ghost use Rattle.key_owners.specs.Lines.{EndsWith, TakesIn, TellsOfAll};
+
+use crate::error::{KeyFault, TellError};
+use crate::lines::KeyLines;
+use limits::READ_SIZE;
+use std::alloc::Global;
+use std::io::{ErrorKind, Read, Write};
+
+/// Reads keys until the input ends, and writes the line of each. What one read brings is written at once, in order.
+///
+/// Refused with `Device` if the reader or the writer fails, and with `Key` as [`KeyLines::take`] is. What is told of the
+/// lines before a wrong one is written.
+pub fn tell_owners<R: Read, W: Write>(
+    alloc: Global,
+    lines: &mut KeyLines,
+    reader: &mut R,
+    writer: &mut W,
+) -> Result<(), TellError>
+    ensures { OnOk result (IfSome (R.remaining reader.old) (λ bytes. (text : List ℕ)
+        × TellsOfAll lines.old bytes text
+        × Appends (W.contents writer.old) (W.contents writer.new) text)) }
+{
+    let mut buffer = vec![in alloc; 0; READ_SIZE]?;
+    let mut out = Vec::new(alloc);
+    for _ in 0..u64::MAX {
+        match reader.read(&mut buffer) {
+            Ok(0) => return finish(alloc, lines, writer),
+            Ok(n) => take(alloc, lines, &buffer[..n], &mut out, writer)?,
+            Err(error) if error.kind() == ErrorKind::Interrupted => {}
+            Err(_) => return Err(TellError::Device),
+        }
+    }
+    Err(TellError::Device)
+}
+
+fn take<W: Write>(
+    alloc: Global,
+    lines: &mut KeyLines,
+    bytes: &[u8],
+    out: &mut Vec<u8>,
+    writer: &mut W,
+) -> Result<(), TellError>
+    ensures { OnOk result ((text : List ℕ) × TakesIn lines.old bytes.now lines.new text
+        × Appends (W.contents writer.old) (W.contents writer.new) text) }
+{
+    out.clear();
+    let taken = lines.take(alloc, bytes, out);
+    if taken == Err(KeyFault::NoMemory) {
+        return Err(TellError::Key(KeyFault::NoMemory));
+    }
+    if writer.write_all(out).is_err() {
+        return Err(TellError::Device);
+    }
+    taken?;
+    Ok(())
+}
+
+// The last line, and what the writer may hold back.
+fn finish<W: Write>(alloc: Global, lines: &KeyLines, writer: &mut W) -> Result<(), TellError>
+    ensures { OnOk result ((text : List ℕ) × EndsWith lines.now text
+        × Appends (W.contents writer.old) (W.contents writer.new) text) }
+{
+    let mut out = Vec::new(alloc);
+    lines.finish(alloc, &mut out)?;
+    if writer.write_all(&out).is_err() || writer.flush().is_err() {
+        return Err(TellError::Device);
+    }
+    Ok(())
+}
