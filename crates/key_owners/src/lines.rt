@@ -59,7 +59,7 @@ impl KeyLines {
         ensures refused { IfErr result (λ e. MemoryOr e ((text : List ℕ)
             × (out.new.items ≡ out.old.items ++ text) × StopsAt self.old bytes.now self.new text e)) }
     {
-        let _ = &self.line;
+        self.takes_nothing();
         for &byte in bytes {
             self.take_byte(alloc, byte, out)?;
         }
@@ -79,6 +79,13 @@ impl KeyLines {
             return Ok(());
         }
         self.put_line(alloc, out)
+    }
+
+    // A law: so it stands before a byte came.
+    pub(crate) fn takes_nothing(&self)
+        ensures { TakesIn self.now [] self.now [] }
+    {
+        let _ = &self.line;
     }
 
     fn take_byte(&mut self, alloc: Global, byte: u8, out: &mut Vec<u8>) -> Result<(), KeyFault>

@@ -1,13 +1,13 @@
 //! The owners of all keys that a reader has.
-ghost use Rattle.std.specs.Prelude.{◌≡◌, ◌++◌, List, ℕ, IfSome, OnOk};
-ghost use Rattle.std.specs.Io.KnownBytes.{Appends};
+ghost use Rattle.std.specs.Prelude.{◌≡◌, ◌<◌, ◌≤◌, ◌++◌, List, ℕ, length, take, IfOk, IfSome, OnOk};
+ghost use Rattle.std.specs.Io.KnownBytes.{Appends, Consumes, IsAtEnd};
 ghost use Rattle.key_owners.specs.Lines.{EndsWith, TakesIn, TellsOfAll};
 
 use crate::error::{KeyFault, TellError};
 use crate::lines::KeyLines;
 use limits::READ_SIZE;
 use std::alloc::Global;
-use std::io::{ErrorKind, Read, Write};
+use std::io::{Read, Write};
 
 /// Reads keys until the input ends, and writes the line of each. What one read brings is written at once, in order.
 ///
@@ -25,15 +25,29 @@ pub fn tell_owners<R: Read, W: Write>(
 {
     let mut buffer = vec![in alloc; 0; READ_SIZE]?;
     let mut out = Vec::new(alloc);
+    lines.takes_nothing();
     for _ in 0..u64::MAX {
-        match reader.read(&mut buffer) {
-            Ok(0) => return finish(alloc, lines, writer),
-            Ok(n) => take(alloc, lines, &buffer[..n], &mut out, writer)?,
-            Err(error) if error.kind() == ErrorKind::Interrupted => {}
-            Err(_) => return Err(TellError::Device),
+        let n = read(reader, &mut buffer)?;
+        if n == 0 {
+            return finish(alloc, lines, writer);
         }
+        take(alloc, lines, &buffer[..n], &mut out, writer)?;
     }
     Err(TellError::Device)
+}
+
+fn read<R: Read>(reader: &mut R, buffer: &mut [u8]) -> Result<usize, TellError>
+    ensures bytes { IfOk result (λ n. Consumes (R.remaining reader.old) (R.remaining reader.new)
+        (take n buffer.new)) }
+    ensures end { IfOk result (λ n. n ≡ 0 → 0 < length buffer.old
+        → IsAtEnd (R.remaining reader.new)) }
+    ensures bound { IfOk result (λ n. n ≤ length buffer.old) }
+    ensures same { length buffer.new ≡ length buffer.old }
+{
+    match reader.read(buffer) {
+        Ok(n) => Ok(n),
+        Err(_) => Err(TellError::Device),
+    }
 }
 
 fn take<W: Write>(

@@ -6,11 +6,7 @@ use Rattle.key_owners.proofs.TellingLemmas.{memory_or, takes_join, takes_none}
 use Rattle.key_owners.proofs.lines.KeyLines.take.Goals as goal
 
 pub loop-byte-init : goal.loop-byte-init
-loop-byte-init c =
-    let i = c.self.inside in
-    let v : Telling = record { owners = i.owners; is_hex = i.is_hex; open_line = i.line.items; ended = i.ended } in
-    let bound : i.ended ≤ 2 ^ 64 - 1 = omega (arith, c.self.ranges) in
-    ([], sym (append-nil c.args.out.now.items), subst (λ (t : Telling). TakesIn t [] t []) c.self.view_is (takes_none v c.self.invariant bound))
+loop-byte-init c = ([], sym (append-nil c.args.out.now.items), c.takes_nothing.ensures)
 
 pub loop-byte-preserved : goal.loop-byte-preserved
 loop-byte-preserved c =
