@@ -1,12 +1,12 @@
 -- A ring of some hosts has a point.
-use Rattle.std.proofs.Common.{◌≡◌, ℕ, zero, suc, ◌<◌, ◌≤◌, List, [], ◌∷◌, length, get_or, All, Contains, inl, inr, refl, sym, ◌∙◌, ap, arith}
+use Rattle.std.proofs.Common.{ℕ, suc, ◌<◌, ◌≤◌, List, [], ◌∷◌, length, get_or, All, Contains, inl, inr, refl, arith}
 use Rattle.std.proofs.lemmas.Bool.{cases_lt}
 use Rattle.std.proofs.lemmas.List.Elements.{All-cons, All-weaker}
 use Rattle.std.proofs.lemmas.Option.{slice_get-get_or}
 use Rattle.md5.specs.Md5.{md5}
 use Rattle.ketama.specs.Point.{point_in}
 use Rattle.ketama.specs.Continuum.{Continuum}
-use Rattle.ketama.specs.Ketama.{AreWeights, IsKetamaRing, digest_counts, label_of}
+use Rattle.ketama.specs.Ketama.{AreWeights, IsKetamaRing, label_of}
 use Rattle.ketama.proofs.ShareLemmas.{heaviest_has_forty}
 
 -- a place of the greatest

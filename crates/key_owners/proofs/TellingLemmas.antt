@@ -2,11 +2,11 @@
 use Rattle.std.proofs.Common.{◌≡◌, ◌≢◌, ℕ, zero, suc, ◌+◌, ◌-◌, ◌^◌, ◌≤◌, min, Bool, List, [], ◌∷◌, ◌++◌, length, All, Contains, inl, inr, refl, sym, ◌∙◌, ap, subst, append_assoc, append-nil, arith}
 use Rattle.std.specs.List.{AllZip, concat, flat_map}
 use Rattle.std.proofs.lemmas.List.{length-append}
-use Rattle.std.proofs.lemmas.List.Concat.{flat_map-append, concat_is}
+use Rattle.std.proofs.lemmas.List.Concat.{flat_map-append}
 use Rattle.std.proofs.lemmas.List.Elements.{All-append, All-push, Contains-append_cases}
 use Rattle.key_owners.specs.declared.error.KeyFault.{KeyFault}
 use Rattle.key_owners.specs.Owners.{Owners}
-use Rattle.key_owners.specs.Lines.{AreOwnerLines, IsCut, IsOwnerLine, MemoryOr, TakesIn, Telling, newline}
+use Rattle.key_owners.specs.Lines.{AreOwnerLines, IsOwnerLine, MemoryOr, TakesIn, Telling, newline}
 
 -- a line with its newline
 abbrev pub ended_line : List ℕ → List ℕ

@@ -85,7 +85,7 @@ impl KeyLines {
     pub(crate) fn takes_nothing(&self)
         ensures { TakesIn self.now [] self.now [] }
     {
-        let _ = &self.line;
+        let _ended = self.ended;
     }
 
     fn take_byte(&mut self, alloc: Global, byte: u8, out: &mut Vec<u8>) -> Result<(), KeyFault>

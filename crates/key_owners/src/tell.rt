@@ -23,7 +23,7 @@ pub fn tell_owners<R: Read, W: Write>(
         × TellsOfAll lines.old bytes text
         × Appends (W.contents writer.old) (W.contents writer.new) text)) }
 {
-    let mut buffer = vec![in alloc; 0; READ_SIZE]?;
+    let mut buffer = [0; READ_SIZE];
     let mut out = Vec::new(alloc);
     lines.takes_nothing();
     for _ in 0..u64::MAX {
@@ -36,13 +36,11 @@ pub fn tell_owners<R: Read, W: Write>(
     Err(TellError::Device)
 }
 
-fn read<R: Read>(reader: &mut R, buffer: &mut [u8]) -> Result<usize, TellError>
+fn read<R: Read>(reader: &mut R, buffer: &mut [u8; READ_SIZE]) -> Result<usize, TellError>
     ensures bytes { IfOk result (λ n. Consumes (R.remaining reader.old) (R.remaining reader.new)
         (take n buffer.new)) }
-    ensures end { IfOk result (λ n. n ≡ 0 → 0 < length buffer.old
-        → IsAtEnd (R.remaining reader.new)) }
-    ensures bound { IfOk result (λ n. n ≤ length buffer.old) }
-    ensures same { length buffer.new ≡ length buffer.old }
+    ensures end { IfOk result (λ n. n ≡ 0 → IsAtEnd (R.remaining reader.new)) }
+    ensures bound { IfOk result (λ n. n ≤ READ_SIZE) }
 {
     match reader.read(buffer) {
         Ok(n) => Ok(n),

@@ -1,8 +1,8 @@
-use Rattle.std.proofs.Common.{◌≡◌, ◌+◌, ◌-◌, ◌^◌, ◌≤◌, ◌++◌, ◌∷◌, [], ℕ, List, get_or, take, drop, ap, sym, subst, ◌∙◌, append-nil, append_assoc, arith}
+use Rattle.std.proofs.Common.{◌≡◌, ◌+◌, ◌++◌, ◌∷◌, [], ℕ, List, get_or, take, drop, ap, sym, subst, ◌∙◌, append-nil, append_assoc}
 use Rattle.std.proofs.lemmas.Result.{err_from_is_err_and}
 use Rattle.std.proofs.lemmas.List.{take_more, take_all, take-append-drop, drop_more}
 use Rattle.key_owners.specs.Lines.{IsFaultAt, MemoryOr, StopsAt, TakesIn, Telling}
-use Rattle.key_owners.proofs.TellingLemmas.{memory_or, takes_join, takes_none}
+use Rattle.key_owners.proofs.TellingLemmas.{memory_or, takes_join}
 use Rattle.key_owners.proofs.lines.KeyLines.take.Goals as goal
 
 pub loop-byte-init : goal.loop-byte-init
