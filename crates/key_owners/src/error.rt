@@ -12,17 +12,17 @@ pub enum KeyFault {
     #[error("out of memory")]
     NoMemory,
 
-    /// The key of this line, from 1 on, has more than [`MAX_BULK`](limits::MAX_BULK) bytes.
+    /// A key of more than `MAX_BULK` bytes.
     #[error("line {line}: the key has more than 1048576 bytes")]
     TooLong {
-        /// The line's number.
+        /// From 1 on.
         line: u64,
     },
 
-    /// This line, from 1 on, isn't pairs of hexadecimal digits.
+    /// A line that isn't pairs of hexadecimal digits.
     #[error("line {line}: no pairs of hexadecimal digits")]
     NotHex {
-        /// The line's number.
+        /// From 1 on.
         line: u64,
     },
 }

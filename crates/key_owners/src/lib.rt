@@ -1,7 +1,5 @@
-//! Which host owns a key, told line by line for keys that come as lines.
-//!
-//! [`KeyOwners`] answers for one key, [`KeyLines`] for a text of keys, [`tell_owners`] for all that a reader has. It stands on `proxy_config` and `ketama`. Begin
-//! with `owners.rt`.
+//! Which host owns a key. It stands on `proxy_config` and `ketama`. Begin with `owners.rt`; `tell.rt` tells it of a reader's
+//! lines.
 //!
 //! ```text
 //! let owners = KeyOwners::read(alloc, br#"{"hosts":["127.0.0.1:7001","127.0.0.1:7002"]}"#)?;

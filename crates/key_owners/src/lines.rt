@@ -9,7 +9,7 @@ use limits::MAX_BULK;
 use std::alloc::Global;
 use std::marker::Model;
 
-/// Keys that come as lines, in pieces of any length.
+/// Keys that come as lines, in pieces.
 #[derive(Drop)]
 pub struct KeyLines {
     owners: KeyOwners,
@@ -35,7 +35,7 @@ impl Model for KeyLines {
 }
 
 impl KeyLines {
-    /// No line has come. With `is_hex`, each line writes its key in hexadecimal digits, of either case.
+    /// No line has come. With `is_hex` lines are hexadecimal, of either case.
     pub fn new(alloc: Global, owners: KeyOwners, is_hex: bool) -> KeyLines
         ensures { result ≡ record { owners = owners; is_hex = is_hex; open_line = []; ended = 0 } }
     {
@@ -47,12 +47,10 @@ impl KeyLines {
         }
     }
 
-    /// Takes bytes in, and appends to `out` a line for each line that they end: the line as it came, a tab, and the name of
-    /// the host that owns its key.
+    /// Takes bytes in, and appends to `out`, for each line that they end, the line, a tab and its key's host.
     ///
-    /// Refused with `TooLong` at a byte of a line whose key has `MAX_BULK` bytes already, and with `NotHex` at the end of a
-    /// line that writes no key. What is told of the lines before is in `out` then. Refused with `NoMemory`, after which
-    /// `out` isn't to be used.
+    /// Refused with `TooLong` at a byte past a key's `MAX_BULK`, and with `NotHex` at the end of a line without a key; `out`
+    /// tells of the lines before. Refused with `NoMemory`; `out` isn't to be used then.
     pub fn take(&mut self, alloc: Global, bytes: &[u8], out: &mut Vec<u8>) -> Result<(), KeyFault>
         ensures ok { OnOk result ((text : List ℕ) × (out.new.items ≡ out.old.items ++ text)
             × TakesIn self.old bytes.now self.new text) }
@@ -66,9 +64,7 @@ impl KeyLines {
         Ok(())
     }
 
-    /// Appends to `out` the line for a last line that no newline ended, if it has a byte.
-    ///
-    /// Refused with `NotHex` and `NoMemory` as `take`.
+    /// Appends what is told of a last line without a newline, if it has a byte. Refused with `NotHex` and `NoMemory`.
     pub fn finish(&self, alloc: Global, out: &mut Vec<u8>) -> Result<(), KeyFault>
         ensures ok { OnOk result ((text : List ℕ) × (out.new.items ≡ out.old.items ++ text)
             × EndsWith self.now text) }

@@ -33,9 +33,7 @@ impl Model for KeyOwners {
 }
 
 impl KeyOwners {
-    /// The hosts and the ring of the settings in these bytes, as `serve` has them.
-    ///
-    /// Refused as `Config::read` is, and with `Memory` where memory for the ring is refused.
+    /// Those of the settings in these bytes, as `serve` has them. Refused as `Config::read`, and with `Memory`.
     pub fn read(alloc: Global, bytes: &[u8]) -> Result<KeyOwners, ConfigError>
         ensures ok { IfOk result (λ owners. AreOwnersOf bytes.now owners) }
         ensures refused { IfErr result (λ e. IsRefusal bytes.now e) }
@@ -50,8 +48,7 @@ impl KeyOwners {
         })
     }
 
-    /// The name of the host that owns the key while no host is ejected: its address, as in the settings. Takes no
-    /// memory.
+    /// The name of the key's host: its address, as in the settings.
     pub fn owner(&self, key: &[u8]) -> &[u8]
         ensures { IsOwnerName self.now key.now result.now }
     {

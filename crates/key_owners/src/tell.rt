@@ -9,10 +9,9 @@ use limits::READ_SIZE;
 use std::alloc::Global;
 use std::io::{Read, Write};
 
-/// Reads keys until the input ends, and writes the line of each. What one read brings is written at once, in order.
+/// Reads lines until the input ends, and writes what is told of each read.
 ///
-/// Refused with `Device` if the reader or the writer fails, and with `Key` as [`KeyLines::take`] is. What is told of the
-/// lines before a wrong one is written.
+/// Refused with `Device` if a stream fails, and with `Key` as [`KeyLines::take`]; what is told before is written.
 pub fn tell_owners<R: Read, W: Write>(
     alloc: Global,
     lines: &mut KeyLines,
@@ -70,7 +69,7 @@ fn take<W: Write>(
     Ok(())
 }
 
-// The last line, and what the writer may hold back.
+// The last line.
 fn finish<W: Write>(alloc: Global, lines: &KeyLines, writer: &mut W) -> Result<(), TellError>
     ensures { OnOk result ((text : List ℕ) × EndsWith lines.now text
         × Appends (W.contents writer.old) (W.contents writer.new) text) }

@@ -38,7 +38,7 @@ pub enum Action {
     Owner {
         /// The settings file's path.
         config: String,
-        /// Whether the lines of standard input write their keys in hexadecimal.
+        /// Whether keys are hexadecimal.
         is_hex: bool,
     },
 }
