@@ -386,18 +386,21 @@ def made_ready(servers):
     return servers
 
 
-def install():
-    """Installs Redis where it is missing and that may be done; else ends with a line that says so."""
-    missing = [word for word in ("redis-server", "redis-cli", "redis-benchmark") if not shutil.which(word)]
+def install(**more):
+    """Installs Redis, and the packages of the programs that `more` names, where they are missing and that may be done; else ends
+    with a line that says so."""
+    packages = {"redis-server": "redis-server", "redis-cli": "redis-tools", "redis-benchmark": "redis-tools", **more}
+    missing = [word for word in packages if not shutil.which(word)]
     if missing and os.geteuid() == 0 and shutil.which("apt-get"):
         quiet = {"stdout": subprocess.DEVNULL, "stderr": subprocess.DEVNULL}
         # (a server that the package starts by itself isn't wanted)
         subprocess.run(["apt-get", "update", "-q"], check=False, **quiet)
-        subprocess.run(["apt-get", "install", "-y", "-q", "redis-server", "redis-tools"], check=False,
+        subprocess.run(["apt-get", "install", "-y", "-q", *{packages[word] for word in missing}], check=False,
                        env={**os.environ, "RUNLEVEL": "1", "DEBIAN_FRONTEND": "noninteractive"}, **quiet)
         missing = [word for word in missing if not shutil.which(word)]
     if missing:
-        print(f"the tests need {', '.join(missing)}: install Debian's redis-server and redis-tools", file=sys.stderr)
+        names = ", ".join(sorted({packages[word] for word in missing}))
+        print(f"the tests need {', '.join(missing)}: install Debian's {names}", file=sys.stderr)
         print("0 passed, 1 failed")
         sys.exit(1)
 

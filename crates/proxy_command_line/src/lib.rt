@@ -34,6 +34,13 @@ pub enum Action {
         /// The operator's address for HTTP.
         metrics: Option<SocketAddr>,
     },
+    /// Tell which host owns each key of standard input.
+    Owner {
+        /// The settings file's path.
+        config: String,
+        /// Whether keys are hexadecimal.
+        is_hex: bool,
+    },
 }
 
 /// Why the words make no request.
@@ -110,6 +117,13 @@ fn metrics<'a>(alloc: Global) -> Arg<'a> {
         .action(ArgAction::Set)
 }
 
+fn hex<'a>(alloc: Global) -> Arg<'a> {
+    Arg::new(alloc, "hex")
+        .long("hex")
+        .help("Each line writes its key in hexadecimal digits, of either case")
+        .action(ArgAction::SetTrue)
+}
+
 fn address(word: Option<&str>) -> Result<Option<SocketAddr>, CommandLineError> {
     let Some(word) = word else {
         return Ok(None);
@@ -134,6 +148,15 @@ fn serve<'a>(alloc: Global) -> Result<Command<'a>, AllocError> {
         .arg(metrics(alloc))
 }
 
+fn owner<'a>(alloc: Global) -> Result<Command<'a>, AllocError> {
+    Command::new(alloc, "owner")
+        .about(
+            "Reads keys from standard input, one a line, and prints each with the host that owns it while none is ejected",
+        )
+        .arg(config(alloc))?
+        .arg(hex(alloc))
+}
+
 fn local<'a>(alloc: Global) -> Result<Command<'a>, AllocError> {
     Command::new(alloc, "redproxy")
         .about("A proxy that clients speak to as to one Redis server")
@@ -147,6 +170,7 @@ fn local<'a>(alloc: Global) -> Result<Command<'a>, AllocError> {
 fn command<'a>(alloc: Global) -> Result<Command<'a>, AllocError> {
     local(alloc)?
         .subcommand(check(alloc)?)?
+        .subcommand(owner(alloc)?)?
         .subcommand(serve(alloc)?)
 }
 
@@ -157,6 +181,11 @@ pub fn read(alloc: Global, words: &[String]) -> Result<Action, CommandLineError>
         Some(("check", matches)) => {
             let config = String::from_str(alloc, matches.get_str("config").unwrap_or(""))?;
             Ok(Action::Check { config })
+        }
+        Some(("owner", matches)) => {
+            let config = String::from_str(alloc, matches.get_str("config").unwrap_or(""))?;
+            let is_hex = matches.get_flag("hex");
+            Ok(Action::Owner { config, is_hex })
         }
         Some(("serve", matches)) => {
             let config = String::from_str(alloc, matches.get_str("config").unwrap_or(""))?;

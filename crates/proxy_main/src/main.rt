@@ -1,15 +1,17 @@
 //! `redproxy`: a proxy that clients use as one Redis server. It stands on `proxy_serve`, `proxy_local`, `proxy_config`,
-//! `settings_fault`, `proxy_command_line` and `proxy_exit_status`. Begin with `run`; `serve` is in `proxy_serve`, `local`
-//! in `proxy_local`.
+//! `settings_fault`, `key_owners`, `proxy_command_line` and `proxy_exit_status`. Begin with `run`; `serve` is in `proxy_serve`,
+//! `local` in `proxy_local`, `owner` in `owner.rt`.
 #![tactic(auto)]
 
 ghost use Rattle.std.specs.Prelude.{◌≡◌};
 ghost use Rattle.proxy_exit_status.specs.Ending.{status_of};
 
+mod owner;
 mod settings;
 
 use crate::settings::{checked, settings_of};
 use mio::net::TcpListener;
+use owner::run_owner;
 use proxy_command_line::{Action, CommandLineError, KIT, VERSION};
 use proxy_config::Config;
 use proxy_exit_status::Ending;
@@ -180,6 +182,7 @@ fn run<
     match proxy_command_line::read(rt.alloc(), words.as_slice()) {
         Ok(Action::Local) => run_local(rt),
         Ok(Action::Check { config }) => run_check(rt, config.as_str()),
+        Ok(Action::Owner { config, is_hex }) => run_owner(rt, config.as_str(), is_hex),
         Ok(
             Action::Serve {
                 config,

@@ -35,7 +35,12 @@ pub(crate) fn checked<R: Runtime + AllocGlobal>(
     }
 }
 
-fn bytes_of<R: Runtime + AllocGlobal>(rt: &R, log: Log, path: &str) -> Result<Vec<u8>, u8> {
+/// The bytes of this file. What is wrong with it is logged; `Err` has the status to end with.
+pub(crate) fn bytes_of<R: Runtime + AllocGlobal>(
+    rt: &R,
+    log: Log,
+    path: &str,
+) -> Result<Vec<u8>, u8> {
     match fs::read(rt, path) {
         Ok(bytes) => Ok(bytes),
         Err(error) if error.kind() == io::ErrorKind::OutOfMemory => Err(spent(rt, log)),
@@ -65,8 +70,8 @@ fn settings_in<R: Runtime + AllocGlobal>(
     Ok(config)
 }
 
-// Logs why these settings are refused. Returns the status.
-fn refused<R: Runtime + AllocGlobal>(
+/// Logs why these settings are refused. Returns the status.
+pub(crate) fn refused<R: Runtime + AllocGlobal>(
     rt: &R,
     log: Log,
     path: &str,
