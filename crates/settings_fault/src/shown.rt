@@ -7,7 +7,7 @@ ghost use Rattle.settings_fault.specs.Lines.{ArePrintable};
 use std::alloc::{AllocError, Global};
 
 // The most characters of a file that a line shows.
-const MAX_SHOWN: usize = 60;
+const MAX_CHARACTERS: usize = 60;
 
 const CUT: &str = "..";
 
@@ -21,7 +21,7 @@ pub(crate) fn shown(alloc: Global, part: &[u8]) -> Result<String, AllocError>
         push_bytes(&mut line, part)?;
         return Ok(line);
     };
-    let mut room = MAX_SHOWN - CUT.len();
+    let mut room = MAX_CHARACTERS - CUT.len();
     for character in text.chars() {
         let Some(left) = room.checked_sub(width_of(character)) else {
             line.push_str(CUT)?;
