@@ -6,7 +6,7 @@ use Rattle.open_sockets.specs.declared.sockets.Sockets.{Sockets}
 -- A word says how many sockets are open, and from 2 ^ 32 on that no further one is taken.
 abbrev pub IsWord : ℕ → Sockets → Type 0
 IsWord word s = ((s.is_draining ≡ false) × (word ≡ s.count) × (s.count < 2 ^ 32))
-  ⊎ ((s.is_draining ≡ true) × (word ≡ 2 ^ 32 + s.count))
+    ⊎ ((s.is_draining ≡ true) × (word ≡ 2 ^ 32 + s.count))
 
 -- a further socket is taken: the serving doesn't drain, and fewer are open than may be
 abbrev pub MayOpen : Sockets → Type 0

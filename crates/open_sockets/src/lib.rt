@@ -1,7 +1,6 @@
-//! The open sockets of clients, which can't be forgotten.
+//! The open sockets of clients, each counted from `admit` until it is dropped. The last one of a drain ends the server.
 //!
-//! A stream comes to a worker only as an [`AdmittedStream`], with an [`OpenSocket`] that is counted from `admit` until it is
-//! dropped. The last one of a drain ends the server. It stands on `fresh_stream` and `mio`. Begin with `open_sockets.rt`.
+//! It stands on `fresh_stream` and `mio`. Begin with `open_sockets.rt`.
 #![tactic(auto)]
 
 mod open_sockets;

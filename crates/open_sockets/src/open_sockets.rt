@@ -6,12 +6,10 @@ use std::io;
 use std::sync::Arc;
 use std::sync::atomic::{AtomicBool, AtomicU64, Ordering};
 
-// What the sockets of one run share.
 struct Shared {
     // `Sockets` as a word.
     word: AtomicU64,
     closed: AtomicU64,
-    // After how many closed connections the server ends; 0 is never.
     most_closed: u64,
     is_running: AtomicBool,
     // Wakes the thread that accepts.
@@ -39,7 +37,6 @@ impl Shared {
         let _ = self.waker.wake();
     }
 
-    // True: the server ran until now.
     fn end(&self) -> bool {
         let did_run = self.is_running.swap(false, Ordering::SeqCst);
         self.wake();
@@ -53,8 +50,7 @@ impl Shared {
     }
 }
 
-/// An open socket of a client. It is counted until this is dropped, also while it goes over to the next generation. The last
-/// one of a server that drains ends the server.
+/// An open socket of a client, counted until this is dropped. The last one of a drain ends the server.
 pub struct OpenSocket {
     shared: Arc<Shared>,
 }
@@ -87,20 +83,16 @@ impl AdmittedStream {
     }
 }
 
-/// All open sockets of clients, and whether the server goes on.
+/// All open sockets, and whether the server goes on.
 #[derive(Drop)]
 pub struct OpenSockets {
     shared: Arc<Shared>,
 }
 
 impl OpenSockets {
-    /// No socket of a server that goes on. It ends after `most_closed` closed connections; 0 is never. The waker wakes the
-    /// thread that accepts, whenever the server ends. Refused for want of memory.
-    pub fn new(
-        alloc: Global,
-        waker: Waker,
-        most_closed: u64,
-    ) -> Result<OpenSockets, AllocError> {
+    /// None of a server that goes on, and ends after `most_closed` closed connections; 0 is never. The waker is for the thread
+    /// that accepts. Refused for want of memory.
+    pub fn new(alloc: Global, waker: Waker, most_closed: u64) -> Result<OpenSockets, AllocError> {
         let shared = Shared {
             word: AtomicU64::new(0),
             closed: AtomicU64::new(0),
@@ -115,8 +107,6 @@ impl OpenSockets {
     }
 
     /// Counts an accepted stream. `None`: it is closed, since `MAX_SOCKETS` are open or none is accepted any more.
-    ///
-    /// It is counted before it is decided, so that the last socket of a drain is never missed.
     pub fn admit(&self, stream: FreshStream) -> Option<AdmittedStream> {
         let Ok(shared) = Arc::try_clone(&self.shared) else {
             return None;
@@ -130,7 +120,7 @@ impl OpenSockets {
         }
     }
 
-    /// Counts a closed connection. The server ends after `most_closed` of them.
+    /// Counts a closed connection, which may be the last one.
     pub fn count_closed(&self) {
         let before = self.shared.closed.fetch_add(1, Ordering::SeqCst);
         if is_last_closing(self.shared.most_closed, before) {
@@ -138,8 +128,7 @@ impl OpenSockets {
         }
     }
 
-    /// Accepts no further socket; the server ends with the last open one. Returns how many are open. `None`: it drained
-    /// before.
+    /// Accepts no further socket. Returns how many are open; `None`: it drained before.
     pub fn drain(&self) -> Option<u64> {
         let before = self.shared.word.fetch_or(DRAINING, Ordering::SeqCst);
         if Sockets::of(before).is_draining {

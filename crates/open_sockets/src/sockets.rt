@@ -1,10 +1,10 @@
-//! What one atomic word says of the clients' sockets, and what each change of it comes to.
+//! What a word says of the clients' sockets.
 ghost use Rattle.std.specs.Prelude.{◌≡◌, ◌↔◌, ◌<◌, IsTrue};
 ghost use Rattle.open_sockets.specs.Sockets.{AreDone, IsLastClosing, IsWord, MayOpen, draining, one_less_open};
 
 use limits::MAX_SOCKETS;
 
-/// The bit of a word that says that no further socket is taken.
+/// Set in a word: no further socket is taken.
 pub(crate) const DRAINING: u64 = 1 << 32;
 
 /// How many sockets of clients are open, and whether no further one is taken.
@@ -32,7 +32,7 @@ impl Sockets {
         }
     }
 
-    /// What is left behind a word, once one of its sockets was dropped.
+    /// Once one of a word's sockets is dropped.
     pub(crate) fn without_one(before: u64) -> Sockets
         ensures { (s : Sockets) → IsWord before s → 0 < s.count → result ≡ one_less_open s }
     {
@@ -43,7 +43,7 @@ impl Sockets {
         }
     }
 
-    /// What is left behind a word, once it drains.
+    /// Once a word drains.
     pub(crate) fn drained(before: u64) -> Sockets
         ensures { (s : Sockets) → IsWord before s → result ≡ draining s }
     {
@@ -68,7 +68,7 @@ impl Sockets {
     }
 }
 
-/// Whether one more closed connection ends the server, where `before` were closed; 0 is never.
+/// Whether one more closed connection than `before` ends the server.
 pub(crate) fn is_last_closing(most: u64, before: u64) -> bool
     ensures { IsTrue result ↔ IsLastClosing most before }
 {

@@ -9,4 +9,4 @@ use Rattle.journal_budget.specs.Payload.{HasRoomForCommand}
 -- kept for links
 abbrev pub HasRoom : AccountState → ℕ → ℕ → Type 0
 HasRoom account reserve unfinished = (capped (reserve + MAX_COMMAND_STEPS) ≤ free_steps account.loan)
-  × HasRoomForCommand (known account) (owed_steps account) unfinished
+    × HasRoomForCommand (known account) (owed_steps account) unfinished

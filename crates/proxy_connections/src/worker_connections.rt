@@ -321,8 +321,8 @@ impl<'a> WorkerConnections<'a> {
     fn insert(&mut self, round: Round<'_>, mut client: ClientConnection)
         requires room { HasRoomFor self.old.clients 1 }
         requires newcomer { IsNewcomer client.engine self.old.clients self.old.steps }
-        ensures place { self.new.place ≡ self.old.place }
-        ensures settings { self.new.settings ≡ self.old.settings }
+        ensures same { (self.new.place ≡ self.old.place)
+            × (self.new.settings ≡ self.old.settings) }
         ensures hosts { self.new.hosts ≡ self.old.hosts }
         ensures steps { self.new.steps ≡ self.old.steps }
         ensures stay { KeepsClients self.old.clients self.new.clients }

@@ -3,11 +3,6 @@
 //! [`explain`] returns the place and the text of the fault that `Config::read` named, [`warning`] those of settings that
 //! are read, and yet send commands in a circle. It stands on `proxy_config`, `json`, `serde_json` and `limits`. Begin
 //! with `fault.rt`; `scan.rt` finds the places.
-//!
-//! ```text
-//! let explanation = explain(alloc, br#"{"hosts":["redis:6379"]}"#, "hosts")?;
-//! // 1:11: hosts[0] is "redis:6379"; wanted: an address and a port, as 10.0.0.1:6379 or [::1]:6379
-//! ```
 #![tactic(auto)]
 
 mod circle;

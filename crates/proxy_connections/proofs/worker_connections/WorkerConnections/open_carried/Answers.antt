@@ -10,7 +10,7 @@ insert-requires-clause-newcomer g c = is_newcomer _ _ _ _ _ c.in-Ok.ensures.ok c
 pub returns-in-Ok-clause-adds : goal.returns-in-Ok-clause-adds
 returns-in-Ok-clause-adds g c =
     rw (← c.self.view_is)
-    (adds_opened _ _ c.insert.ensures.place c.insert.ensures.settings c.insert.ensures.hosts c.insert.ensures.stay c.in-Ok.client.engine _ c.in-Ok.ensures.ok c.insert.ensures.steps)
+    (adds_opened _ _ c.insert.ensures.same.0 c.insert.ensures.same.1 c.insert.ensures.hosts c.insert.ensures.stay c.in-Ok.client.engine _ c.in-Ok.ensures.ok c.insert.ensures.steps)
 
 pub insert-requires-clause-room : goal.insert-requires-clause-room
 insert-requires-clause-room g c = rw (← c.self.view_is) at c.requires
