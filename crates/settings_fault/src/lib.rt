@@ -1,8 +1,7 @@
 //! What is wrong with a settings file, and where: the line from which a person mends it.
 //!
-//! [`explain`] returns the place and the text of the fault that `Config::read` named, [`warning`] those of settings that
-//! are read, and yet send commands in a circle. It stands on `proxy_config`, `json`, `serde_json` and `limits`. Begin
-//! with `fault.rt`; `scan.rt` finds the places.
+//! [`explain`] tells of the fault that `Config::read` named, [`warning`] of settings that send commands in a circle. It
+//! stands on `proxy_config`, `json` and `serde_json`. Begin with `fault.rt`; `scan.rt` finds the places.
 #![tactic(auto)]
 
 mod circle;
