@@ -386,10 +386,9 @@ def made_ready(servers):
     return servers
 
 
-def install(**more):
-    """Installs Redis, and the packages of the programs that `more` names, where they are missing and that may be done; else ends
-    with a line that says so."""
-    packages = {"redis-server": "redis-server", "redis-cli": "redis-tools", "redis-benchmark": "redis-tools", **more}
+def install():
+    """Installs Redis where it is missing and that may be done; else ends with a line that says so."""
+    packages = {"redis-server": "redis-server", "redis-cli": "redis-tools", "redis-benchmark": "redis-tools"}
     missing = [word for word in packages if not shutil.which(word)]
     if missing and os.geteuid() == 0 and shutil.which("apt-get"):
         quiet = {"stdout": subprocess.DEVNULL, "stderr": subprocess.DEVNULL}
