@@ -8,7 +8,7 @@
 //!   │ admit, push      │ snapshot              Worker ..           SweepThread
 //!   │ drain, quit      │ drain, quit             │ pop, carry        │ open, looked, near, full, drained
 //!   ▼                  ▼                         ▼                   ▼
-//! Server: AcceptQueue of each worker, Sockets, Generations and Board, Stats, EjectionLog
+//! Server: AcceptQueue of each worker, OpenSockets, Generations and Board, Stats, EjectionLog
 //!                                                │                   │
 //!               GenerationState: WorkerStatus, Notices, JournalRoom, and the gate
 //! ```
