@@ -1,13 +1,12 @@
 //! Measures the gate and the reader, each on its own; `bench/compare` measures the program. It stands on both. Begin
 //! with `gate.rt`.
 //!
-//! `benches gate time` prints the turns a second of 1, 2, 4 and 8 threads on one running total, at a ticket gate and
-//! under std's `Mutex`. Busy loops beside it show a machine that has other work.
+//! `benches gate time` prints the turns a second of 1, 2, 4 and 8 threads, at a ticket gate and under std's `Mutex`,
+//! also beside busy loops.
 //!
 //! `benches reader time` prints the bytes a second of the reader, and of a plain copy.
 //!
-//! Without words it prints its usage and the lengths of the journals of a few turns, so that this output is always
-//! the same.
+//! Without words it prints its usage and the lengths of a few journals.
 #![tactic(auto)]
 
 mod gate;

@@ -1,7 +1,7 @@
-ghost use Rattle.std.specs.Prelude.{◌≡◌, ◌<◌, length, None};
+ghost use Rattle.std.specs.Prelude.{◌≡◌, ◌<◌, ◌*◌, length, min, None};
 ghost use Rattle.ejector.specs.Settings.{first_fault};
 ghost use Rattle.ejector.specs.Opening.{IsOpening};
-ghost use Rattle.ejector.specs.State.{is_out};
+ghost use Rattle.ejector.specs.State.{host_of, is_out};
 
 use crate::host::{FRESH, HostState};
 use crate::settings::Rules;
@@ -66,6 +66,26 @@ impl EjectState {
     {
         let _rules = self.rules();
         self.hosts()[host].is_out
+    }
+
+    /// The clock at the host's last ejection, 0 without one.
+    pub fn ejected_at(&self, host: usize) -> u64
+        requires { host < self.now.rules.hosts }
+        ensures { result ≡ (host_of self.now.state host).start }
+    {
+        let _rules = self.rules();
+        self.hosts()[host].start
+    }
+
+    /// How long the host's ejections last now, in milliseconds.
+    pub fn ejection_ms(&self, host: usize) -> u64
+        requires { host < self.now.rules.hosts }
+        ensures { result ≡ min (self.now.rules.settings.base_ms
+            * (host_of self.now.state host).multiplier) self.now.rules.settings.max_ms }
+    {
+        let settings = self.rules().settings;
+        let multiplier = self.hosts()[host].multiplier;
+        (settings.base_ms as u64 * multiplier as u64).min(settings.max_ms as u64)
     }
 
     pub(crate) fn clock(&self) -> u64

@@ -3,3 +3,5 @@ mod BudgetLemmas
 mod PayloadLemmas
 mod FarLemmas
 mod ErrorLemmas
+mod ReplySizeLemmas
+mod ChargeLemmas

@@ -35,18 +35,15 @@ no_account = record {
   reported = reported_of 0 0 empty_ledger;
 }
 
--- an account once a step of this kind was made
-abbrev pub stepped : StepKind → AccountState → AccountState
-stepped kind a = record a {
-  counts = counted kind a.counts;
+-- an account once a step of this kind was made, with these bytes
+abbrev pub stepped_with : StepKind → PayloadCounts → AccountState → AccountState
+stepped_with kind bytes a = record a {
+  counts = counted kind bytes.handed a.counts;
   loan = loan_after kind a.loan;
   steps = capped (a.steps + 1);
   cost = capped (a.cost + capped (cost_of kind));
+  bytes = plus a.bytes bytes;
 }
-
--- an account once a step of this kind was made, with these bytes
-abbrev pub stepped_with : StepKind → PayloadCounts → AccountState → AccountState
-stepped_with kind bytes a = record (stepped kind a) { bytes = plus a.bytes bytes }
 
 -- ---- what it reports and knows
 

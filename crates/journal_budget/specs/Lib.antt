@@ -7,3 +7,5 @@ pub mod Ledger
 pub mod Reported
 pub mod Account
 pub mod PayloadLaws
+pub mod ReplySizes
+pub mod ChargeLaws

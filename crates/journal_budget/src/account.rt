@@ -41,7 +41,7 @@ impl Model for Account {
 
 impl Account {
     ghost use Rattle.journal_budget.specs.Account.{no_account, stepped_with, with_payload, with_account, reported_to, settled_with, known, owed_steps};
-    ghost use Rattle.journal_budget.specs.Ledger.{HasLeft, lends_more, with_coming};
+    ghost use Rattle.journal_budget.specs.Ledger.{HasLeft, lends_more, with_charge, with_coming};
     ghost use Rattle.journal_budget.specs.Budget.{free_steps, borrowed};
     ghost use Rattle.journal_budget.specs.Counts.{no_counts};
     ghost use Rattle.journal_budget.specs.Payload.{average_of, HasRoomForCommand, HasRoomForReply};
@@ -81,7 +81,7 @@ impl Account {
     pub fn note(&mut self, kind: StepKind, bytes: PayloadCounts)
         ensures { self.new ≡ stepped_with kind bytes self.old }
     {
-        self.counts.note(kind);
+        self.counts.note(kind, bytes.handed);
         self.loan.note(kind);
         self.steps = self.steps.saturating_add(1);
         self.cost = self.cost.saturating_add(kind.cost());
@@ -148,6 +148,25 @@ impl Account {
         self.known().takes_reply(ledger.coming())
     }
 
+    /// Reports payload, and what a client's commands are charged, with `charged` at its last report.
+    pub fn report_charge(
+        &mut self,
+        ledger: &mut Ledger,
+        average: u64,
+        charge: u64,
+        charged: &mut u64,
+    )
+        ensures account { self.new ≡ reported_to ledger.new average
+            self.old.reported.owed self.old }
+        ensures ledger { ledger.new
+            ≡ with_payload self.old (with_charge charge charged.old ledger.old) }
+        ensures charged { charged.new ≡ charge }
+    {
+        ledger.note_charge(charge, mem::replace(charged, charge));
+        let steps = self.reported.owed();
+        self.report(ledger, average, steps);
+    }
+
     fn report(&mut self, ledger: &mut Ledger, average: u64, owed: u64)
         ensures account { self.new ≡ reported_to ledger.new average owed self.old }
         ensures ledger { ledger.new ≡ with_payload self.old ledger.old }
@@ -190,13 +209,19 @@ impl Account {
 
     // The journal was far from full, and little has come since.
     #[inline(always)]
-    #[tactic(auto, using(crate::proofs::FarLemmas::far_for_command, crate::proofs::FarLemmas::far_for_reply))]
+    #[tactic(auto, using(crate::proofs::FarLemmas::far_for_command))]
     fn is_far_from_full(&self, unfinished: u64) -> bool
         ensures command { IsTrue result
             → HasRoomForCommand (known self.now) (owed_steps self.now) unfinished }
         ensures reply { IsTrue result → HasRoomForReply (known self.now) unfinished }
     {
-        let bytes = self.bytes.kept.max(self.bytes.came).max(unfinished);
+        let PayloadCounts {
+            kept,
+            came,
+            due,
+            ..
+        } = self.bytes;
+        let bytes = kept.max(came).max(due).max(unfinished);
         bytes <= FAR_BYTES && self.cost <= FAR_STEPS && self.reported.is_far()
     }
 

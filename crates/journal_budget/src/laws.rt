@@ -1,3 +1,5 @@
+ghost use Rattle.journal_budget.specs.ChargeLaws.{AloneHasRoom, ChargedFits, RoomHoldsCharges};
+ghost use Rattle.journal_budget.specs.ReplySizes.{LargeIsCharged, LateAreCounted, SmallAgain};
 ghost use Rattle.journal_budget.specs.BudgetLaws.{CommandFits, OwedFits, OwedIsPaid, PaysAtFirst, PaysOnceLent, PaysOnceNoted, PaysOnceSettled};
 ghost use Rattle.journal_budget.specs.PayloadLaws.{ErrorsFit};
 
@@ -18,4 +20,18 @@ pub fn owed_steps_fit()
 /// Errors in the places of all parts that a journal has room for fit the bytes that are kept for errors.
 pub fn errors_fit()
     ensures { ErrorsFit }
+{}
+
+/// A charge covers its reply. 48 small ones end it. Large ones of late are counted.
+pub fn reply_sizes_follow()
+    ensures charged { LargeIsCharged }
+    ensures small { SmallAgain }
+    ensures late { LateAreCounted }
+{}
+
+/// Charges hold room for the replies that they are for. One alone keeps its command from nothing.
+pub fn charged_replies_fit()
+    ensures fits { ChargedFits }
+    ensures holds { RoomHoldsCharges }
+    ensures alone { AloneHasRoom }
 {}

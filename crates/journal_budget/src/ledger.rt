@@ -12,6 +12,8 @@ pub struct Ledger {
     pub(crate) bytes: PayloadCounts,
     // Bytes of large replies that are coming.
     coming: u64,
+    // What commands in flight are charged.
+    charged: u64,
     steps: u64,
 }
 
@@ -24,13 +26,14 @@ impl Model for Ledger {
       budget = l.budget;
       bytes = l.bytes;
       coming = l.coming;
+      charged = l.charged;
       steps = l.steps;
     } };
 }
 
 impl Ledger {
     ghost use Rattle.limits.specs.declared.journals.TheConstants.{MAX_STEPS};
-    ghost use Rattle.journal_budget.specs.Ledger.{empty_ledger, payload_in, with_steps, with_coming};
+    ghost use Rattle.journal_budget.specs.Ledger.{empty_ledger, payload_in, with_steps, with_charge, with_coming};
     ghost use Rattle.journal_budget.specs.Payload.{next_average_of};
 
     /// The ledger of an empty journal.
@@ -41,6 +44,7 @@ impl Ledger {
             budget: Budget::new(),
             bytes: PayloadCounts::NONE,
             coming: 0,
+            charged: 0,
             steps: 0,
         }
     }
@@ -56,6 +60,13 @@ impl Ledger {
         ensures { self.new ≡ with_coming came before self.old }
     {
         self.coming = self.coming.saturating_sub(before).saturating_add(came);
+    }
+
+    /// A client's commands are charged `charge` bytes, `before` at the last report.
+    pub(crate) fn note_charge(&mut self, charge: u64, before: u64)
+        ensures { self.new ≡ with_charge charge before self.old }
+    {
+        self.charged = self.charged.saturating_sub(before).saturating_add(charge);
     }
 
     pub(crate) fn coming(&self) -> u64
@@ -76,7 +87,7 @@ impl Ledger {
     pub(crate) fn payload(&self, average: u64) -> Payload
         ensures { result ≡ payload_in average self.now }
     {
-        let mut payload = Payload::new(average);
+        let mut payload = Payload::new(average, self.charged);
         self.bytes.add_to(&mut payload);
         payload
     }

@@ -10,14 +10,16 @@ mod laws;
 mod ledger;
 mod payload;
 mod payload_counts;
+mod reply_sizes;
 mod reported;
 mod step_kind;
 mod turn_counts;
 
 pub use account::Account;
-pub use laws::{errors_fit, owed_steps_fit};
+pub use laws::{charged_replies_fit, errors_fit, owed_steps_fit, reply_sizes_follow};
 pub use ledger::Ledger;
 pub use payload::MAX_PART_ERROR;
 pub use payload_counts::PayloadCounts;
+pub use reply_sizes::{HandedReplies, LARGE_REPLY, MAX_EXPECTED, ReplySizes};
 pub use step_kind::StepKind;
 pub use turn_counts::TurnCounts;

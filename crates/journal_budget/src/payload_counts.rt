@@ -1,7 +1,8 @@
 ghost use Rattle.std.specs.Prelude.{◌≡◌};
-ghost use Rattle.journal_budget.specs.Counts.{no_bytes, reply_bytes, plus, with_bytes};
+ghost use Rattle.journal_budget.specs.Counts.{no_bytes, part_bytes, reply_bytes, plus, unless_large, with_bytes};
 
 use crate::payload::Payload;
+use crate::reply_sizes::LARGE_REPLY;
 
 // Payload is averaged over replies, so that failed parts don't lower the average.
 const STEPS_A_REPLY: u64 = 4;
@@ -15,8 +16,18 @@ pub struct PayloadCounts {
     pub came: u64,
     /// Bytes handed out to clients.
     pub handed: u64,
+    /// Bytes that were due once commands had been accepted: texts of parts, and replies twice. Large ones aren't counted.
+    pub due: u64,
     /// Steps that the average is taken over.
     pub steps: u64,
+}
+
+// Large replies are charged, and a large text has its own room as its command.
+#[inline(always)]
+fn unless_large(bytes: u64) -> u64
+    ensures { result ≡ unless_large bytes }
+{
+    if bytes < LARGE_REPLY { bytes } else { 0 }
 }
 
 impl PayloadCounts {
@@ -25,6 +36,7 @@ impl PayloadCounts {
         kept: 0,
         came: 0,
         handed: 0,
+        due: 0,
         steps: 0,
     };
 
@@ -43,10 +55,11 @@ impl PayloadCounts {
     /// Those of a part's text.
     #[inline(always)]
     pub fn of_part(kept: u64) -> PayloadCounts
-        ensures { result ≡ record no_bytes { kept = kept } }
+        ensures { result ≡ part_bytes kept }
     {
         PayloadCounts {
             kept,
+            due: unless_large(kept),
             ..PayloadCounts::NONE
         }
     }
@@ -59,6 +72,7 @@ impl PayloadCounts {
         PayloadCounts {
             kept: came,
             came,
+            due: 2 * unless_large(came),
             steps: STEPS_A_REPLY,
             ..PayloadCounts::NONE
         }
@@ -83,6 +97,7 @@ impl PayloadCounts {
         self.kept = self.kept.saturating_add(other.kept);
         self.came = self.came.saturating_add(other.came);
         self.handed = self.handed.saturating_add(other.handed);
+        self.due = self.due.saturating_add(other.due);
         self.steps = self.steps.saturating_add(other.steps);
     }
 
@@ -90,6 +105,6 @@ impl PayloadCounts {
     pub(crate) fn add_to(&self, payload: &mut Payload)
         ensures { payload.new ≡ with_bytes self.now payload.old }
     {
-        payload.note(self.kept, self.came, self.handed, self.steps);
+        payload.note(*self);
     }
 }

@@ -1,2 +1,3 @@
 pub mod TurnStep
 pub mod LastLedger
+pub mod LegalSteps

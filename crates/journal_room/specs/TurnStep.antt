@@ -13,7 +13,7 @@ use Rattle.journal_budget.specs.declared.step_kind.StepKind.{StepKind}
 use Rattle.journal_budget.specs.declared.step_kind.StepKind.TheVariants as kinds
 use Rattle.journal_budget.specs.declared.payload_counts.PayloadCounts.{PayloadCounts}
 use Rattle.journal_budget.specs.Budget.{capped}
-use Rattle.journal_budget.specs.Counts.{no_bytes, reply_bytes}
+use Rattle.journal_budget.specs.Counts.{no_bytes, part_bytes, reply_bytes}
 use Rattle.journal_budget.specs.Account.{AccountState, stepped_with}
 use Rattle.journal_room.specs.declared.turn_step.TheConstants.{MAX_OWN_WORD, MAX_OWN_ERROR}
 
@@ -51,7 +51,7 @@ own_bytes (Some local) n = own_answer local n
 -- steps of the average
 abbrev pub added : ℕ → Answer → PayloadCounts
 added n (answers.Accepted index local parts no_host busy) = record no_bytes { kept = n; came = own_bytes local n }
-added n (answers.Sent epoch place text) = record no_bytes { kept = length text }
+added n (answers.Sent epoch place text) = part_bytes (length text)
 added n (answers.Matched trip) = reply_bytes n
 added n (answers.Bytes text) = record no_bytes { kept = length text; handed = length text }
 added n _ = no_bytes

@@ -3,7 +3,7 @@ ghost use Rattle.std.specs.Bool.{OnTrue, OnFalse};
 ghost use Rattle.limits.specs.declared.journals.TheConstants.{MAX_COMMAND_STEPS};
 ghost use Rattle.crossbeam_utils.specs.Padded.{padded_value};
 ghost use Rattle.journal_budget.specs.Account.{known, owed_steps, reported_to, with_account, with_payload};
-ghost use Rattle.journal_budget.specs.Ledger.{HasLeft, payload_in};
+ghost use Rattle.journal_budget.specs.Ledger.{HasLeft, payload_in, with_charge};
 ghost use Rattle.journal_room.specs.LastLedger.{LendsAtLeast};
 ghost use Rattle.journal_budget.specs.Budget.{capped, no_loan, free_steps, borrowed};
 ghost use Rattle.journal_budget.specs.Counts.{no_bytes};
@@ -13,12 +13,12 @@ ghost use Rattle.journal_room.specs.declared.journal_room.TheConstants.{LARGE, L
 use crate::metered_turns::{HeldTurns, MeteredTurns};
 use crate::open_connections::{OpenConnection, OpenConnections};
 use crate::room_ledger::RoomLedger;
-use crate::unfinished_sum::UnfinishedSum;
+use byte_sum::ByteSum;
 use crossbeam_utils::CachePadded;
 use limits::{MAX_COMMAND_STEPS, MAX_UNFINISHED};
 use std::alloc::{AllocError, Global};
-use std::sync::Wait;
 use std::sync::atomic::{AtomicBool, Ordering};
+use std::sync::{Arc, Wait};
 
 // Payload of this many bytes is reported before room is decided.
 const LARGE: u64 = 65_536;
@@ -28,6 +28,17 @@ const LARGE_STEP: u64 = 8_192;
 
 // At most this many steps are lent to all workers together, but to each at least a command's.
 const MAX_LENT: u64 = 65_536;
+
+/// What a client's further command needs.
+#[derive(Clone, Copy, Drop)]
+pub struct CommandNeeds {
+    /// The client's bytes that aren't accepted yet.
+    pub unfinished: u64,
+    /// Steps kept for the worker's links.
+    pub reserve: u64,
+    /// What its commands are charged, with this one.
+    pub charge: u64,
+}
 
 /// What the workers of a generation share. What each round writes has cache lines of its own, so that no other read
 /// waits for it.
@@ -39,7 +50,10 @@ pub struct JournalRoom {
     ledger: CachePadded<RoomLedger>,
     // No further commands are accepted, so that accepted ones can be answered before the journal is full.
     is_full: AtomicBool,
-    unfinished: CachePadded<UnfinishedSum>,
+    ran_short: AtomicBool,
+    unfinished: CachePadded<ByteSum>,
+    // Those of all journals of the process, with these.
+    all_unfinished: Arc<ByteSum>,
 }
 
 impl Drop for JournalRoom {
@@ -50,14 +64,23 @@ impl Drop for JournalRoom {
             open: _,
             ledger: _,
             is_full: _,
-            unfinished: _,
+            ran_short: _,
+            unfinished,
+            all_unfinished,
         } = self;
+        all_unfinished.change(0, unfinished.get());
     }
 }
 
 impl JournalRoom {
-    /// The room in an empty journal. `average` is the last generation's payload bytes a step. Refused for want of memory.
-    pub fn new(alloc: Global, workers: u64, average: u64) -> Result<JournalRoom, AllocError>
+    /// The room in an empty journal. `average` is the last generation's payload bytes a step, and `all_unfinished` has the bytes
+    /// of all unfinished commands of the process. Refused for want of memory.
+    pub fn new(
+        alloc: Global,
+        workers: u64,
+        average: u64,
+        all_unfinished: Arc<ByteSum>,
+    ) -> Result<JournalRoom, AllocError>
         ensures workers { IfOk result (λ room. room.workers ≡ workers) }
         ensures average { IfOk result (λ room. room.average ≡ average) }
     {
@@ -67,7 +90,9 @@ impl JournalRoom {
             open: OpenConnections::new(alloc)?,
             ledger: CachePadded::new(RoomLedger::new()),
             is_full: AtomicBool::new(false),
-            unfinished: CachePadded::new(UnfinishedSum::new()),
+            ran_short: AtomicBool::new(false),
+            unfinished: CachePadded::new(ByteSum::new()),
+            all_unfinished,
         })
     }
 
@@ -141,36 +166,68 @@ impl JournalRoom {
         turns.free_steps() >= least
     }
 
-    /// Whether there is room for a further command, beside the reserve. `unfinished` bytes of the client's commands
-    /// aren't accepted yet. The turns leave the gate where large payload is reported or steps are lent.
+    /// Whether there is room for a further command, beside the reserve and all charges. The other workers know of
+    /// `charged` for the client. The turns leave the gate where large payload or a charge is reported, or steps are lent.
     pub fn takes_command<R: Wait, T: HeldTurns>(
         &self,
         rt: &R,
         turns: &mut MeteredTurns<T>,
-        unfinished: u64,
-        reserve: u64,
+        needs: CommandNeeds,
+        charged: &mut u64,
     ) -> bool
         ensures turns { turns.new.turns ≡ turns.old.turns }
         ensures counts { turns.new.account.counts ≡ turns.old.account.counts }
         ensures last { (turns.new ≡ turns.old)
             ⊎ (turns.new.last_ledger.name ≡ (padded_value self.now.ledger).name) }
         ensures takes { IsTrue result
-            ↔ ((capped (reserve + MAX_COMMAND_STEPS) ≤ free_steps turns.new.account.loan)
+            ↔ ((capped (needs.reserve + MAX_COMMAND_STEPS) ≤ free_steps turns.new.account.loan)
             × HasRoomForCommand (known turns.new.account) (owed_steps turns.new.account)
-            unfinished) }
-        ensures large { (LARGE ≤ max unfinished turns.old.account.bytes.kept)
+            needs.unfinished) }
+        ensures large { (LARGE ≤ max needs.unfinished turns.old.account.bytes.kept)
             ⊎ (LARGE_STEP ≤ average_of turns.old.account.reported.payload)
+            ⊎ (0 < max needs.charge charged.old)
             → turns.new.account.bytes ≡ no_bytes }
-        ensures small { max unfinished turns.old.account.bytes.kept < LARGE
+        ensures small { max needs.unfinished turns.old.account.bytes.kept < LARGE
             → average_of turns.old.account.reported.payload < LARGE_STEP
+            → max needs.charge charged.old ≡ 0
             → turns.new.account ≡ record turns.old.account { loan = turns.new.account.loan } }
+        ensures charged { OnTrue result ((charged.new ≡ needs.charge)
+            × (0 < max needs.charge charged.old → turns.new.account.reported.payload.charged
+            ≡ capped (turns.new.last_ledger.found.charged - charged.old + needs.charge))) }
     {
-        if unfinished.max(turns.account().unreported_bytes()) >= LARGE
+        let is_charged = needs.charge.max(*charged) > 0;
+        if is_charged
+            || needs.unfinished.max(turns.account().unreported_bytes()) >= LARGE
             || turns.account().average() >= LARGE_STEP
         {
-            self.settle(rt, turns, reserve);
+            self.settle(rt, turns, needs.reserve);
         }
-        self.lend(rt, turns, reserve) && turns.account().has_room_for_command(unfinished)
+        if !self.lend(rt, turns, needs.reserve) {
+            return false;
+        }
+        if is_charged {
+            self.charge(rt, turns, needs.charge, charged);
+        }
+        turns.account().has_room_for_command(needs.unfinished)
+    }
+
+    /// Reports what a client's commands are charged; the others know of `charged`. The turns leave the gate.
+    pub fn charge<R: Wait, T: HeldTurns>(
+        &self,
+        rt: &R,
+        turns: &mut MeteredTurns<T>,
+        charge: u64,
+        charged: &mut u64,
+    )
+        ensures turns { turns.new.turns ≡ turns.old.turns }
+        ensures last { turns.new.last_ledger.name ≡ (padded_value self.now.ledger).name }
+        ensures account { turns.new.account ≡ reported_to (with_payload turns.old.account
+            (with_charge charge charged.old turns.new.last_ledger.found))
+            self.now.average turns.old.account.reported.owed turns.old.account }
+        ensures charged { charged.new ≡ charge }
+    {
+        turns.leave();
+        turns.report_charge(&mut self.ledger.lock(rt), self.average, charge, charged);
     }
 
     /// Whether there is room for a reply of which `came` bytes have come, and the other workers know of `reported`. A
@@ -227,6 +284,17 @@ impl JournalRoom {
         self.is_full.store(true, Ordering::SeqCst);
     }
 
+    /// Whether a host's reply found no room.
+    pub fn ran_short(&self) -> bool {
+        self.ran_short.load(Ordering::SeqCst)
+    }
+
+    /// A host's reply found no room: no further commands are accepted.
+    pub fn note_short(&self) {
+        self.ran_short.store(true, Ordering::SeqCst);
+        self.stop_accepting();
+    }
+
     /// Counts a socket that may get a connection here, until what is returned is dropped. Refused for want of memory.
     pub fn count_opened(&self) -> Result<OpenConnection, AllocError> {
         self.open.open()
@@ -240,10 +308,11 @@ impl JournalRoom {
     /// Changes the bytes of a connection's unfinished command.
     pub fn note_unfinished(&self, now: u64, before: u64) {
         self.unfinished.change(now, before);
+        self.all_unfinished.change(now, before);
     }
 
-    /// Whether the unfinished commands of all connections have more than `MAX_UNFINISHED` bytes.
+    /// Whether the unfinished commands of all connections of the process have more than `MAX_UNFINISHED` bytes.
     pub fn is_overfull(&self) -> bool {
-        self.unfinished.is_more_than(MAX_UNFINISHED)
+        self.all_unfinished.is_more_than(MAX_UNFINISHED)
     }
 }

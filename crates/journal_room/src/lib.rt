@@ -21,10 +21,9 @@ mod metered_turns;
 mod open_connections;
 mod room_ledger;
 mod turn_step;
-mod unfinished_sum;
 
 pub use journal_budget::TurnCounts;
-pub use journal_room::JournalRoom;
+pub use journal_room::{CommandNeeds, JournalRoom};
 pub use laws::part_errors_are_short;
 pub use metered_turns::{HeldTurns, MeteredTurns};
 pub use open_connections::OpenConnection;

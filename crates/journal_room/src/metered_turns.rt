@@ -5,6 +5,7 @@ ghost use Rattle.ticket_gate.specs.Turns.{KeepsPlace, RefusesTurn};
 ghost use Rattle.journal_budget.specs.Account.{no_account};
 ghost use Rattle.journal_budget.specs.Budget.{free_steps};
 ghost use Rattle.journal_budget.specs.Counts.{no_counts};
+ghost use Rattle.journal_room.specs.LegalSteps.{IsOfLegalJournal};
 ghost use Rattle.journal_room.specs.TurnStep.{brought_by, noted};
 
 use crate::room_ledger::{LastLedger, NamedLedger};
@@ -36,16 +37,21 @@ impl<'a, S: CoreState> HeldTurns for Seated<'a, S> {
 }
 
 /// A worker's turns, metered: what they used of the journal, and what came of them.
+///
+/// At all times the steps that they made are those of their pass in some legal journal.
 #[derive(Drop)]
 pub struct MeteredTurns<T: CoreTurns> {
     turns: T,
     account: Account,
     last_ledger: LastLedger,
+
+    ghost is_legal: { ∥ IsOfLegalJournal T.legal (T.facts turns) ∥₁ },
 }
 
 impl<T: CoreTurns> MeteredTurns<T> {
     /// These turns, with nothing counted.
     pub fn new(turns: T) -> MeteredTurns<T>
+        requires { ∥ IsOfLegalJournal T.legal (T.facts turns) ∥₁ }
         ensures turns { result.turns ≡ turns }
         ensures account { result.account ≡ no_account }
     {
@@ -115,7 +121,7 @@ impl<T: CoreTurns> MeteredTurns<T> {
 impl<T: CoreTurns> MeteredTurns<T> {
     ghost use Rattle.journal_budget.specs.Account.{known, reported_to, settled_with, with_account, with_payload};
     ghost use Rattle.journal_budget.specs.Budget.{borrowed, no_loan};
-    ghost use Rattle.journal_budget.specs.Ledger.{HasLeft, lends_more, with_coming};
+    ghost use Rattle.journal_budget.specs.Ledger.{HasLeft, lends_more, with_charge, with_coming};
     ghost use Rattle.journal_room.specs.LastLedger.{LendsAtLeast};
     ghost use Rattle.journal_budget.specs.Payload.{HasRoomForReply};
 
@@ -201,6 +207,28 @@ impl<T: CoreTurns> MeteredTurns<T> {
         self.last_ledger = LastLedger::found(named);
         self.account
             .report_reply(&mut named.ledger, average, came, reported)
+    }
+
+    /// As [`Account::report_charge`].
+    pub(crate) fn report_charge(
+        &mut self,
+        named: &mut NamedLedger,
+        average: u64,
+        charge: u64,
+        charged: &mut u64,
+    )
+        ensures turns { self.new.turns ≡ self.old.turns }
+        ensures last { self.new.last_ledger
+            ≡ record { name = named.old.name.value; found = named.old.ledger } }
+        ensures account { self.new.account ≡ reported_to named.new.ledger average
+            self.old.account.reported.owed self.old.account }
+        ensures ledger { named.new.ledger ≡ with_payload self.old.account
+            (with_charge charge charged.old named.old.ledger) }
+        ensures charged { charged.new ≡ charge }
+    {
+        self.last_ledger = LastLedger::found(named);
+        self.account
+            .report_charge(&mut named.ledger, average, charge, charged);
     }
 }
 

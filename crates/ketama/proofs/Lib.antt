@@ -6,3 +6,4 @@ pub mod OwnerLemmas
 pub mod ShareLemmas
 pub mod KetamaPairLemmas
 pub mod CallerLemmas
+pub mod ShortLemmas

@@ -2,6 +2,7 @@ ghost use Rattle.std.specs.Prelude.{◌≡◌, ◌==◌, List, ℕ, IsTrue, IfSo
 ghost use Rattle.ketama.specs.Key.{IsSplitAt, IsTagOf, tag_or_key, hashed_part, point_of, point_of_bytes};
 
 use crate::point::point_at;
+use crate::short::{MAX_SHORT, point_of_short};
 use md5::{Digest, Md5};
 
 /// The point of a key on the ring: bytes 0 to 3 of its MD5, the least significant first.
@@ -15,7 +16,11 @@ pub fn point_of_key(key: &[u8], tags: bool) -> u32
     ensures whole { (IsTrue tags → (tag : List ℕ) → ¬ IsTagOf key.now tag)
         → result ≡ point_of_bytes key.now }
 {
-    point_at(&Md5::digest(hashed_part(key, tags)), 0)
+    let part = hashed_part(key, tags);
+    if part.len() <= MAX_SHORT {
+        return point_of_short(part);
+    }
+    point_at(&Md5::digest(part), 0)
 }
 
 fn hashed_part(key: &[u8], tags: bool) -> &[u8]

@@ -25,3 +25,4 @@ mod owner;
 mod point;
 mod ring;
 mod share;
+mod short;

@@ -1,5 +1,5 @@
 -- The sockets of clients of one run: how many are open, and when the serving is done.
-use Rattle.std.specs.Prelude.{◌≡◌, ◌≢◌, ◌≤◌, ◌<◌, ◌+◌, ◌-◌, ◌^◌, ◌⊎◌, true, false, ℕ, Bool}
+use Rattle.std.specs.Prelude.{◌≡◌, ◌≢◌, ◌≤◌, ◌<◌, ◌+◌, ◌-◌, ◌^◌, ◌⊎◌, true, false, ℕ}
 use Rattle.limits.specs.declared.queues.TheConstants.{MAX_SOCKETS}
 use Rattle.open_sockets.specs.declared.sockets.Sockets.{Sockets}
 

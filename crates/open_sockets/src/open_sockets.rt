@@ -1,4 +1,5 @@
 use crate::sockets::{DRAINING, Sockets, is_last_closing};
+use byte_sum::ByteSum;
 use fresh_stream::FreshStream;
 use mio::{Registry, Token, Waker};
 use std::alloc::{AllocError, Global};
@@ -6,9 +7,18 @@ use std::io;
 use std::sync::Arc;
 use std::sync::atomic::{AtomicBool, AtomicU64, Ordering};
 
+/// The most lines of generations.
+pub const MAX_LINES: u32 = 64;
+
+/// The most bytes of answers that wait for all sockets together, beyond what each socket's buffer has at any time.
+pub const MAX_WAITING_BYTES: u64 = 268_435_456;
+
 struct Shared {
     // `Sockets` as a word.
     word: AtomicU64,
+    waiting: ByteSum,
+    // For each line its sockets that are gone, until `take_gone`.
+    gone: Vec<AtomicU64>,
     closed: AtomicU64,
     most_closed: u64,
     is_running: AtomicBool,
@@ -20,6 +30,8 @@ impl Drop for Shared {
     fn drop(self) {
         let Shared {
             word: _,
+            waiting: _,
+            gone: _,
             closed: _,
             most_closed: _,
             is_running: _,
@@ -43,6 +55,12 @@ impl Shared {
         did_run
     }
 
+    fn count_gone(&self, line: usize) {
+        if let Some(gone) = self.gone.get(line) {
+            gone.fetch_add(1, Ordering::SeqCst);
+        }
+    }
+
     fn end_if_done(&self, sockets: Sockets) {
         if sockets.are_done() {
             self.end();
@@ -50,16 +68,33 @@ impl Shared {
     }
 }
 
-/// An open socket of a client, counted until this is dropped. The last one of a drain ends the server.
+/// An open socket of a client, counted in its line until this is dropped with the bytes that wait for it. The last one of a
+/// drain ends the server.
 pub struct OpenSocket {
     shared: Arc<Shared>,
+    line: usize,
+    waiting: u64,
 }
 
 impl Drop for OpenSocket {
     fn drop(self) {
-        let OpenSocket { shared } = self;
+        let OpenSocket {
+            shared,
+            line,
+            waiting,
+        } = self;
+        shared.waiting.change(0, waiting);
+        shared.count_gone(line);
         let before = shared.word.fetch_sub(1, Ordering::SeqCst);
         shared.end_if_done(Sockets::without_one(before));
+    }
+}
+
+impl OpenSocket {
+    /// So many bytes of answers wait for it now.
+    pub fn note_waiting(&mut self, bytes: u64) {
+        self.shared.waiting.change(bytes, self.waiting);
+        self.waiting = bytes;
     }
 }
 
@@ -90,11 +125,22 @@ pub struct OpenSockets {
 }
 
 impl OpenSockets {
-    /// None of a server that goes on, and ends after `most_closed` closed connections; 0 is never. The waker is for the thread
-    /// that accepts. Refused for want of memory.
-    pub fn new(alloc: Global, waker: Waker, most_closed: u64) -> Result<OpenSockets, AllocError> {
+    /// None of a server with these many lines that goes on, and ends after `most_closed` closed connections; 0 is never. The
+    /// waker is for the thread that accepts. Refused for want of memory.
+    pub fn new(
+        alloc: Global,
+        waker: Waker,
+        most_closed: u64,
+        lines: usize,
+    ) -> Result<OpenSockets, AllocError> {
+        let mut gone = Vec::new(alloc);
+        for _ in 0..lines {
+            gone.push(AtomicU64::new(0))?;
+        }
         let shared = Shared {
             word: AtomicU64::new(0),
+            waiting: ByteSum::new(),
+            gone,
             closed: AtomicU64::new(0),
             most_closed,
             is_running: AtomicBool::new(true),
@@ -106,17 +152,31 @@ impl OpenSockets {
         }
     }
 
-    /// Counts an accepted stream. `None`: it is closed, since `MAX_SOCKETS` are open or none is accepted any more.
-    pub fn admit(&self, stream: FreshStream) -> Option<AdmittedStream> {
+    /// Counts an accepted stream of this line. `None`: it is closed and gone, since `MAX_SOCKETS` are open or none is accepted any
+    /// more.
+    pub fn admit(&self, line: usize, stream: FreshStream) -> Option<AdmittedStream> {
         let Ok(shared) = Arc::try_clone(&self.shared) else {
+            self.shared.count_gone(line);
             return None;
         };
         let before = shared.word.fetch_add(1, Ordering::SeqCst);
-        let open = OpenSocket { shared };
+        let open = OpenSocket {
+            shared,
+            line,
+            waiting: 0,
+        };
         if Sockets::of(before).may_open() {
             Some(AdmittedStream { stream, open })
         } else {
             None
+        }
+    }
+
+    /// The sockets of a line that are gone since the last call.
+    pub fn take_gone(&self, line: usize) -> u64 {
+        match self.shared.gone.get(line) {
+            Some(gone) => gone.swap(0, Ordering::SeqCst),
+            None => 0,
         }
     }
 
@@ -147,6 +207,16 @@ impl OpenSockets {
     /// The number of open sockets.
     pub fn count(&self) -> u64 {
         self.shared.sockets().count
+    }
+
+    /// The bytes of answers that wait for all sockets together.
+    pub fn waiting(&self) -> u64 {
+        self.shared.waiting.get()
+    }
+
+    /// Whether these are more than `MAX_WAITING_BYTES`.
+    pub fn has_too_much_waiting(&self) -> bool {
+        self.shared.waiting.is_more_than(MAX_WAITING_BYTES)
     }
 
     /// The number of closed connections.

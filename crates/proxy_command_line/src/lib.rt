@@ -1,8 +1,9 @@
-//! The command line of `redproxy`. It stands on `clap`; begin with `read`.
+//! The command line of `redproxy`. It stands on `clap` and `close_behind`; begin with `read`.
 #![tactic(auto)]
 
 use clap::error::ErrorKind;
 use clap::{Arg, ArgAction, Command, Error, value_parser};
+use close_behind::{CloseBehind, NameError, NameList};
 use std::alloc::{AllocError, Global};
 use std::io;
 use std::net::SocketAddr;
@@ -14,6 +15,8 @@ pub const VERSION: &str = "0.3.0";
 pub const KIT: &str = "rattle-kit-13f logic dac8208d650f15bf";
 
 const VERSION_AND_KIT: &str = "0.3.0 (rattle-kit-13f logic dac8208d650f15bf)";
+
+pub use close_behind::{MAX_NAME_BYTES, MAX_NAMES};
 
 /// The request of the command line.
 #[derive(Drop)]
@@ -29,10 +32,8 @@ pub enum Action {
     Serve {
         /// The settings file's path.
         config: String,
-        /// The server ends after this many closed connections; 0 is never.
-        connections: u64,
-        /// The operator's address for HTTP.
-        metrics: Option<SocketAddr>,
+        /// How it is served.
+        options: ServeOptions,
     },
     /// Tell which host owns each key of standard input.
     Owner {
@@ -43,6 +44,19 @@ pub enum Action {
     },
 }
 
+/// The options of serving beside its settings.
+#[derive(Drop)]
+pub struct ServeOptions {
+    /// The server ends after this many closed connections; 0 is never.
+    pub connections: u64,
+    /// The number of lines of generations.
+    pub lines: u32,
+    /// The operator's address for HTTP.
+    pub metrics: Option<SocketAddr>,
+    /// Behind which refused commands a connection is closed.
+    pub behind: CloseBehind,
+}
+
 /// Why the words make no request.
 #[derive(Drop)]
 pub enum CommandLineError {
@@ -50,6 +64,17 @@ pub enum CommandLineError {
     Memory,
     /// `--metrics` has no address with a port.
     NoAddress,
+    /// `--close-behind` has an empty name.
+    EmptyName,
+    /// `--close-behind` has a name of more than `MAX_NAME_BYTES` bytes.
+    LongName,
+    /// `--close-behind` has more than `MAX_NAMES` names.
+    ManyNames,
+    /// `--close-behind` has the name of a command that is never refused as unsupported.
+    Supported {
+        /// The name.
+        name: String,
+    },
     /// The parser's text is to be printed.
     Parser(ParserText),
 }
@@ -107,12 +132,34 @@ fn connections<'a>(alloc: Global) -> Arg<'a> {
         .action(ArgAction::Set)
 }
 
+fn lines<'a>(alloc: Global) -> Arg<'a> {
+    Arg::new(alloc, "lines")
+        .long("lines")
+        .value_name("N")
+        .help(
+            "Run so many lines of generations, 1 to 64, each with the workers of the settings and ejections of its own",
+        )
+        .value_parser(value_parser!(u32).range(1..=64))
+        .default_value("1")
+        .action(ArgAction::Set)
+}
+
 fn metrics<'a>(alloc: Global) -> Arg<'a> {
     Arg::new(alloc, "metrics")
         .long("metrics")
         .value_name("ADDRESS")
         .help(
             "Tell by HTTP at this address how the serving stands, as 127.0.0.1:9121, and take orders to end",
+        )
+        .action(ArgAction::Set)
+}
+
+fn behind<'a>(alloc: Global) -> Arg<'a> {
+    Arg::new(alloc, "close-behind")
+        .long("close-behind")
+        .value_name("NAMES")
+        .help(
+            "Close a connection behind the first refused command of these names, as multi,select, or behind any for all",
         )
         .action(ArgAction::Set)
 }
@@ -134,6 +181,40 @@ fn address(word: Option<&str>) -> Result<Option<SocketAddr>, CommandLineError> {
     }
 }
 
+// `all` among the names stands for each refused command.
+fn closing(alloc: Global, word: Option<&str>) -> Result<CloseBehind, CommandLineError> {
+    let Some(word) = word else {
+        return Ok(CloseBehind::none());
+    };
+    let (mut names, mut is_all, mut rest) = (NameList::new(alloc), false, word);
+    for _ in 0..word.len() {
+        let Some((name, behind)) = rest.split_once(',') else {
+            break;
+        };
+        is_all = add_name(alloc, &mut names, name)? || is_all;
+        rest = behind;
+    }
+    is_all = add_name(alloc, &mut names, rest)? || is_all;
+    if is_all {
+        return Ok(CloseBehind::all());
+    }
+    Ok(names.finish(alloc)?)
+}
+
+// Whether the name is `all`.
+fn add_name(alloc: Global, names: &mut NameList, name: &str) -> Result<bool, CommandLineError> {
+    match names.add(alloc, name.as_bytes()) {
+        Ok(()) => Ok(name.eq_ignore_ascii_case("all")),
+        Err(NameError::NoMemory) => Err(CommandLineError::Memory),
+        Err(NameError::Empty) => Err(CommandLineError::EmptyName),
+        Err(NameError::TooLong) => Err(CommandLineError::LongName),
+        Err(NameError::TooMany) => Err(CommandLineError::ManyNames),
+        Err(NameError::Supported) => Err(CommandLineError::Supported {
+            name: String::from_str(alloc, name)?,
+        }),
+    }
+}
+
 fn check<'a>(alloc: Global) -> Result<Command<'a>, AllocError> {
     Command::new(alloc, "check")
         .about("Reads a settings file, and tells its hosts and digests, or its first fault")
@@ -145,7 +226,9 @@ fn serve<'a>(alloc: Global) -> Result<Command<'a>, AllocError> {
         .about("Serves clients on the address that the settings name")
         .arg(config(alloc))?
         .arg(connections(alloc))?
-        .arg(metrics(alloc))
+        .arg(lines(alloc))?
+        .arg(metrics(alloc))?
+        .arg(behind(alloc))
 }
 
 fn owner<'a>(alloc: Global) -> Result<Command<'a>, AllocError> {
@@ -163,7 +246,7 @@ fn local<'a>(alloc: Global) -> Result<Command<'a>, AllocError> {
         .version(VERSION_AND_KIT)
         .subcommand_required(true)
         .subcommand(Command::new(alloc, "local").about(
-            "Serves one client on standard input and output",
+            "Serves one client on standard input and output, who goes on behind each refused command",
         ))
 }
 
@@ -189,13 +272,13 @@ pub fn read(alloc: Global, words: &[String]) -> Result<Action, CommandLineError>
         }
         Some(("serve", matches)) => {
             let config = String::from_str(alloc, matches.get_str("config").unwrap_or(""))?;
-            let connections = matches.get_one::<u32>("connections").unwrap_or(0);
-            let metrics = address(matches.get_str("metrics"))?;
-            Ok(Action::Serve {
-                config,
-                connections: u64::from(connections),
-                metrics,
-            })
+            let options = ServeOptions {
+                connections: u64::from(matches.get_one::<u32>("connections").unwrap_or(0)),
+                lines: matches.get_one::<u32>("lines").unwrap_or(1),
+                metrics: address(matches.get_str("metrics"))?,
+                behind: closing(alloc, matches.get_str("close-behind"))?,
+            };
+            Ok(Action::Serve { config, options })
         }
         _ => Ok(Action::Local),
     }

@@ -5,3 +5,4 @@ pub mod PlaceLemmas
 pub mod AssignedLemmas
 mod WorkerPlaces
 pub mod WorkerConnectionLemmas
+pub mod StalledLemmas

@@ -1,6 +1,6 @@
 -- What a worker's clients and hosts keep of their sockets' logs.
-use Rattle.std.proofs.Common.{◌≡◌, ◌≢◌, ◌⊎◌, ◌∙◌, ℕ, List, [], ◌∷◌, Some, None, eq-eqb, inl, inr, refl}
-use Rattle.std.specs.Prelude.{Result}
+use Rattle.std.proofs.Common.{◌≡◌, ◌≢◌, ◌⊎◌, ◌∙◌, ℕ, List, [], ◌∷◌, Some, None, eq-eqb, inl, inr, refl, sym}
+use Rattle.std.specs.Prelude.{Option, Result}
 use Rattle.proxy_history.specs.History.{History}
 use Rattle.proxy_history.specs.OwnSteps.{connection_steps}
 use Rattle.proxy_history.specs.declared.answer.Answer.{Answer}
@@ -8,6 +8,7 @@ use Rattle.proxy_history.specs.declared.event.Event.{Event}
 use Rattle.proxy_history.specs.declared.event.Kind.{Kind}
 use Rattle.journal_core.specs.Journal.{step_by}
 use Rattle.proxy_devices.specs.Device.{ReadState, WriteState}
+use Rattle.close_behind.specs.CloseBehind.{Behind}
 use Rattle.proxy_engines.specs.ClientSteps.{OpensClient}
 use Rattle.proxy_engines.specs.Client.{Client, Carries}
 use Rattle.proxy_engines.specs.Ends.{RestState}
@@ -16,7 +17,7 @@ use Rattle.proxy_engines.specs.Host.{HostEnds, HostOutboxState, LinkState, Carri
 use Rattle.proxy_engines.specs.declared.client.Progress.{Progress}
 use Rattle.engine_work.specs.declared.error.EngineError.{EngineError}
 use Rattle.proxy_engines.specs.Keeps.{KeepsSocket, no_logs}
-use Rattle.proxy_engines.specs.HostStep.{HostCall, HostState, Records, RestsHost, StepsHost, WorksHost, ends_of}
+use Rattle.proxy_engines.specs.HostStep.{HostCall, HostState, Records, RestsHost, StepsHost, WorksHost, ends_of, given_up}
 use Rattle.proxy_engines.proofs.CallerLemmas as engines
 use Rattle.proxy_connections.specs.Sockets.{IsCarried, CarriesItsSocket, KeepsHost, MayDrain, OpensSocket}
 
@@ -44,6 +45,12 @@ KeepsHost-then a b c x y z p q = engines.KeepsLink-then no_logs a b c x y z p q
 -- a fault of a host, recorded or left to the next step, keeps its link
 pub KeepsHost-records : (call : HostCall) (kind : Kind) → Records call kind → KeepsHost (ends_of call.old) (ends_of call.new) call.before call.after
 KeepsHost-records call kind r = engines.KeepsLink-records no_logs call kind r
+
+-- an engine that is given up has the ends that it had
+pub KeepsHost-given_up : (old new : HostState) (before after : History) (fault : Option Kind) → old.fault ≡ fault
+    → KeepsHost (ends_of (given_up old)) (ends_of new) before after → KeepsHost (ends_of old) (ends_of new) before after
+KeepsHost-given_up old new before after None is keeps = rw is at keeps
+KeepsHost-given_up old new before after (Some kind) is keeps = rw is at keeps
 
 -- a step of a host keeps its link
 pub KeepsHost-steps : (unasked : HostOutboxState → LinkState → Type 0) (call : HostCall) (result : Result Progress EngineError)
@@ -73,7 +80,7 @@ own_opening c pass = rw (eq-eqb c c refl) refl
 opened_some : (c pass : ℕ) → connection_steps c (step_by pass Event.Opened (Answer.Opened c) ∷ []) ≢ []
 opened_some c pass none = let is = own_opening c pass in absurd cc
 
-module _ (pass : ℕ) (before after : History) (reader : ReadState) (writer : WriteState) (e : Client) (o : OpensClient pass before after reader writer e) where
+module _ (pass : ℕ) (before after : History) (reader : ReadState) (writer : WriteState) (behind : Behind) (e : Client) (o : OpensClient pass before after reader writer behind e) where
   -- an engine was opened over a new socket
   pub opens_socket : Carries e after [] [] → reader.told ≡ [] → writer.taken ≡ [] → OpensSocket e before after
   opens_socket carries told taken = record {
@@ -82,30 +89,40 @@ module _ (pass : ℕ) (before after : History) (reader : ReadState) (writer : Wr
     alone = own_opening e.conn pass;
     some = opened_some e.conn pass;
     fresh = o.fresh;
-    pasts = [];
-    carries = engines.sockets_carry_logs.begins e after no_logs
-        (record { taken = []; told = []; taken_is = o.taken_is ∙ taken; told_is = o.told_is ∙ told; so = carries });
+    carries = record {
+      pasts = [];
+      legal = tt;
+      carries = engines.sockets_carry_logs.begins e after no_logs
+          (record { taken = []; told = []; taken_is = o.taken_is ∙ taken; told_is = o.told_is ∙ told; so = carries });
+    };
   }
 
   -- an engine was opened over a socket that was between two connections
-  pub reopens_socket : (rest : RestState) (told taken : List ℕ) → ((bytes : List ℕ) → IsRest rest bytes → Carries e after [] bytes)
+  pub reopens_socket : (rest : RestState) (told taken : List ℕ) → rest.behind ≡ behind → ((bytes : List ℕ) → IsRest rest bytes → Carries e after [] bytes)
       → reader.told ≡ told → writer.taken ≡ taken → IsCarried rest (record { told = told; taken = taken }) → OpensSocket e before after
-  reopens_socket rest told taken carries is_told is_taken (pasts, between) = record {
+  reopens_socket rest told taken same carries is_told is_taken carried = record {
     later = step_by pass Event.Opened (Answer.Opened e.conn) ∷ [];
     adds = o.opened;
     alone = own_opening e.conn pass;
     some = opened_some e.conn pass;
     fresh = o.fresh;
-    pasts = pasts;
-    carries = engines.clients_keep_sockets.opens pasts e after rest no_logs carries
-        (rw (o.told_is ∙ is_told, o.taken_is ∙ is_taken) between);
+    carries = record {
+      pasts = carried.pasts;
+      legal = carried.legal;
+      carries = engines.clients_keep_sockets.opens carried.pasts e after rest no_logs (o.behind_is ∙ sym same) carries
+          (rw (o.told_is ∙ is_told, o.taken_is ∙ is_taken) carried.between);
+    };
   }
 
 -- a socket that a served engine left is between two connections
 pub leaves_socket : (e : Client) (rest : RestState) (told taken : List ℕ) → CarriesItsSocket e
-    → ((H : History) (gave got : List ℕ) → Carries e H gave got → IsLeft e.conn H gave got rest)
+    → ((H : History) (gave got : List ℕ) → Carries e H gave got → IsLeft e.conn e.behind H gave got rest)
     → told ≡ e.inbox.told → taken ≡ e.outbox.taken → IsCarried rest (record { told = told; taken = taken })
-leaves_socket e rest told taken served left is_told is_taken = (
-  record { conn = e.conn; steps = served.steps } ∷ served.pasts,
-  rw (is_told, is_taken) (engines.clients_keep_sockets.leaves served.pasts e served.steps rest no_logs (left served.steps) served.carries),
-)
+leaves_socket e rest told taken served left is_told is_taken =
+    let all = served.carries in
+    record {
+      pasts = record { conn = e.conn; steps = served.steps } ∷ all.pasts;
+      legal = (served.of_pass, all.legal);
+      between = rw (is_told, is_taken)
+          (engines.clients_keep_sockets.leaves all.pasts e served.steps rest no_logs (left served.steps) all.carries);
+    }

@@ -3,17 +3,24 @@ use Rattle.std.specs.Prelude.{IfOk}
 use Rattle.std.proofs.Common.{◌≡◌, ◌≢◌, ◌∙◌, ◌<◌, ℕ, List, [], ◌∷◌, ◌++◌, ◌+◌, Some, None, ap, arith, get_or, inl, inr, length, refl, set, subst, suc, sym, true, zero, Option, Result, Ok, Err}
 use Rattle.std.proofs.lemmas.Bool.{cases_eq}
 use Rattle.std.proofs.lemmas.List.{get_or-set_same, get_or-set_other, get_or_append_left, length-append, length-set, map-append}
+use Rattle.std.proofs.Math.Logic.{∥∥₁_map}
 use Rattle.std.proofs.Math.Seq.{get_or-append_seam}
 use Rattle.std.proofs.lemmas.List.Elements.{filter-append}
 use Rattle.slab.specs.Slab.{Slab, Updates, get, with_value}
 use Rattle.slab.proofs.SlabLemmas.{Updates-with_value}
 use Rattle.proxy_history.specs.History.{History, Step}
 use Rattle.proxy_history.specs.OwnSteps.{connection_steps, host_steps, is_connection_step}
+use Rattle.proxy_history.specs.SeenSteps.{history_of_seen}
+use Rattle.proxy_history.specs.declared.answer.Answer.{Answer}
+use Rattle.proxy_history.specs.declared.event.Event.{Event}
+use Rattle.ticket_gate.specs.Turns.{SeatedFacts}
+use Rattle.proxy_core.specs.Recorded.{Origin, IsLegalJournal}
+use Rattle.journal_room.specs.LegalSteps.{IsOfLegalJournal, turns_of}
 use Rattle.proxy_engines.specs.Keeps.{KeepsSocket, no_logs}
 use Rattle.proxy_engines.specs.HostStep.{ends_of}
 use Rattle.proxy_engines.proofs.CallerLemmas as engines
 use Rattle.proxy_engines.specs.Client.{Client as Engine}
-use Rattle.proxy_connections.specs.Sockets.{CarriesItsSocket, KeepsHost, OpensSocket}
+use Rattle.proxy_connections.specs.Sockets.{AreOfPass, CarriesItsSocket, KeepsHost, OpensSocket}
 use Rattle.proxy_config.specs.declared.config.Host.{Host}
 use Rattle.proxy_notices.specs.Places.{IsOf}
 use Rattle.proxy_notices.specs.declared.place.Place.{Place}
@@ -21,7 +28,7 @@ use Rattle.proxy_connections.specs.Places.{KeepsToPlace}
 use Rattle.proxy_connections.specs.Stages.{HasPassedAll, MayGoOver, PassesOn, is_lingering}
 use Rattle.proxy_connections.proofs.StageLemmas.{KeepsSocket-passes_on}
 use Rattle.proxy_connections.proofs.PlaceLemmas.{hosts_of-skip, hosts_of-take, keeps_of_connection, keeps_of_host}
-use Rattle.proxy_connections.specs.WorkerConnections.{AddsClient, CarriesLink, IsAddressed, ChangesClient, ChangesHost, WorkerConnectionsState, IsAt, IsNewcomer, IsServing, KeepsClients, LetsGo, RiseTo, ServesClients, ServesHosts, number_of}
+use Rattle.proxy_connections.specs.WorkerConnections.{AddsClient, CarriesLink, IsAddressed, ChangesClient, ChangesHost, HasFailed, WorkerConnectionsState, IsAt, IsNewcomer, IsServing, KeepsClients, LetsGo, RiseTo, ServesClients, ServesHosts, number_of, steps_of}
 use Rattle.proxy_connections.specs.declared.client_connection.ClientConnection.{ClientConnection}
 use Rattle.proxy_connections.specs.declared.client_connection.Stepped.{Stepped}
 use Rattle.proxy_connections.specs.declared.step_error.StepError.{StepError}
@@ -49,8 +56,12 @@ pub clients_stay : (clients : Slab ClientConnection) (H later : History)
     → ServesClients clients H → ServesClients clients (later ++ H)
 clients_stay clients H later none s = record {
   carries = λ key client there.
-      let (pasts, k) = s.carries key client there in
-      (pasts, engines.sockets_carry_logs.stays pasts client.engine H later no_logs (none key client there) k);
+      let all = s.carries key client there in
+      record {
+        pasts = all.pasts;
+        legal = all.legal;
+        carries = engines.sockets_carry_logs.stays all.pasts client.engine H later no_logs (none key client there) all.carries;
+      };
   opened = λ key client there. opened_later client.engine.conn H later (s.opened key client there);
   apart = s.apart;
 }
@@ -86,11 +97,17 @@ module _ (old new : Slab ClientConnection) (key : ℕ) (one two : ClientConnecti
     carries = λ other client there. elim (cases_eq other key) [
       | inl same ↦
           rw (is_two other client same there)
-          (let (pasts, k) = s.carries key one stands in (pasts, keeps.carries pasts no_logs k))
+          (let all = s.carries key one stands in
+          record { pasts = all.pasts; legal = all.legal; carries = keeps.carries all.pasts no_logs all.carries })
       | inr differs ↦
           let was : IsAt old other client = sym (updates.others other differs) ∙ there in
-          let (pasts, k) = s.carries other client was in
-          (pasts, rw keeps.adds (engines.sockets_carry_logs.stays pasts client.engine H keeps.steps no_logs (none_of other client differs was) k))
+          let all = s.carries other client was in
+          record {
+            pasts = all.pasts;
+            legal = all.legal;
+            carries = rw keeps.adds
+                (engines.sockets_carry_logs.stays all.pasts client.engine H keeps.steps no_logs (none_of other client differs was) all.carries);
+          }
     ];
     opened = λ other client there. elim (cases_eq other key) [
       | inl same ↦ rw (is_two other client same there, keeps.conn, keeps.adds) (opened_later one.engine.conn H keeps.steps (s.opened key one stands))
@@ -234,7 +251,7 @@ module _ {place : Place} {settings : List Host} (clients : Slab ClientConnection
 
   pub is_newcomer : IsNewcomer engine clients H'
   is_newcomer = record {
-    carries = (o.pasts, o.carries);
+    carries = o.carries;
     opened = rw o.adds (λ none. o.some
         (first_none (connection_steps engine.conn o.later) (connection_steps engine.conn H)
         (sym (filter-append (λ (s : Step). is_connection_step engine.conn s.event s.answer) o.later H) ∙ none)));
@@ -276,12 +293,22 @@ module _ {place : Place} {settings : List Host} (old new : Slab ClientConnection
     keeps = s.keeps;
   }
 
--- a client of a worker that serves is served
+-- a client of a worker that serves is served, where the worker's steps are of a pass in a legal journal
 pub carries_its_socket : {place : Place} → {settings : List Host} → (clients : Slab ClientConnection) (hosts : List HostConnection) (key : ℕ) (client : ClientConnection) (H : History) → IsAt clients key client
-    → IsServing place settings clients hosts H → CarriesItsSocket client.engine
-carries_its_socket clients hosts key client H there s =
-    let (pasts, k) = s.clients_are.carries key client there in
-    record { pasts = pasts; steps = H; carries = k }
+    → ∥ AreOfPass H ∥₁ → IsServing place settings clients hosts H → CarriesItsSocket client.engine
+carries_its_socket clients hosts key client H there of_pass s =
+    record { steps = H; of_pass = of_pass; carries = s.clients_are.carries key client there }
+
+-- what turns at a gate tell of their own steps, in the words of sockets
+pub are_of_pass : (seat : SeatedFacts Event Answer Origin)
+    → ∥ IsOfLegalJournal IsLegalJournal (turns_of seat) ∥₁ → ∥ AreOfPass (steps_of seat) ∥₁
+are_of_pass seat legal = ∥∥₁_map legal (λ o. record {
+  made = seat.gate.setting;
+  journal = o.journal;
+  pass = seat.pass.number;
+  is_legal = o.is_legal;
+  own = ap history_of_seen o.own;
+})
 
 -- THE SLAB'S KEYS
 
@@ -314,6 +341,13 @@ lets_go clients key one two stands (Ok Stepped.Closed) closed carried = λ clien
 lets_go clients key one two stands (Ok Stepped.CarriedOver) closed carried =
     (two, (Updates-with_value clients key two (rw stands refl)).changed, carried refl)
 lets_go clients key one two stands (Err e) closed carried = tt
+
+-- the writer of the client at a key has failed
+pub has_failed : (clients : Slab ClientConnection) (key : ℕ) (one two : ClientConnection) → IsAt clients key one
+    → two.engine.outbox.passed.has_failed ≡ true → HasFailed (with_value clients key two) key
+has_failed clients key one two stands failed client there =
+    let same : two ≡ client = one_at (with_value clients key two) key two client ((Updates-with_value clients key two (rw stands refl)).changed) there in
+    subst (λ (c : ClientConnection). c.engine.outbox.passed.has_failed ≡ true) same failed
 
 -- the engine of the client at a key is as it was
 pub serves_same : {place : Place} → {settings : List Host} → (clients : Slab ClientConnection) (hosts : List HostConnection) (key : ℕ) (one two : ClientConnection) (H : History) → IsAt clients key one

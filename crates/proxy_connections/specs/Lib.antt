@@ -4,4 +4,6 @@ pub mod Stages
 pub mod Places
 pub mod WorkerConnections
 pub mod Links
+pub mod HostFaults
 pub mod Room
+pub mod WaitingOutput

@@ -4,22 +4,23 @@ use Rattle.std.specs.List.{All}
 use Rattle.slab.specs.Slab.{Slab, Updates, SameValues, get}
 use Rattle.proxy_history.specs.History.{History}
 use Rattle.proxy_history.specs.OwnSteps.{connection_steps}
-use Rattle.proxy_engines.specs.Socket.{Past}
 use Rattle.proxy_engines.specs.HostStep.{ends_of}
 use Rattle.proxy_engines.specs.Keeps.{KeepsSocket, no_logs}
-use Rattle.proxy_engines.specs.Logs.{CarriesHostLogs, CarriesSocketLogs}
+use Rattle.proxy_engines.specs.Logs.{CarriesHostLogs}
 use Rattle.proxy_engines.specs.Turns.{own_steps}
 use Rattle.proxy_engines.specs.Client.{Client as Engine}
 use Rattle.ticket_gate.specs.Turns.{SeatedFacts}
 use Rattle.proxy_history.specs.declared.answer.Answer.{Answer}
 use Rattle.proxy_history.specs.declared.event.Event.{Event}
 use Rattle.proxy_core.specs.Recorded.{Origin}
-use Rattle.proxy_connections.specs.Sockets.{KeepsHost}
+use Rattle.proxy_connections.specs.Sockets.{CarriesAll, KeepsHost}
 use Rattle.proxy_config.specs.declared.config.Host.{Host}
 use Rattle.proxy_notices.specs.Places.{IsOf, hosts_of}
 use Rattle.proxy_notices.specs.declared.place.Place.{Place}
 use Rattle.proxy_connections.specs.Places.{KeepsToPlace}
 use Rattle.proxy_connections.specs.Stages.{HasPassedAll, MayGoOver, is_lingering}
+use Rattle.proxy_connections.specs.WaitingOutput.{stalled_bytes}
+use Rattle.proxy_connections.specs.declared.stalled.Stalled.{Stalled}
 use Rattle.proxy_connections.specs.declared.client_connection.ClientConnection.{ClientConnection}
 use Rattle.proxy_connections.specs.declared.client_connection.Stepped.{Stepped}
 use Rattle.proxy_connections.specs.declared.host_connection.HostConnection.{HostConnection}
@@ -42,7 +43,7 @@ IsAt clients key client = get clients key ≡ Some client
 -- and no other client has the same.
 pub record ServesClients (clients : Slab ClientConnection) (steps : History) : Type 0 where
   pub carries : (key : ℕ) (client : ClientConnection) → IsAt clients key client
-      → (pasts : List Past) × CarriesSocketLogs pasts client.engine steps no_logs
+      → CarriesAll client.engine steps
   pub opened : (key : ℕ) (client : ClientConnection) → IsAt clients key client → connection_steps client.engine.conn steps ≢ []
   pub apart : (key other : ℕ) (one two : ClientConnection) → IsAt clients key one → IsAt clients other two
       → one.engine.conn ≡ two.engine.conn → key ≡ other
@@ -82,13 +83,34 @@ pub record IsServing (place : Place) (settings : List Host) (clients : Slab Clie
 -- An engine that is no client's yet: it carries all that its socket's logs hold, steps were made of its connection, and no client
 -- has the same.
 pub record IsNewcomer (engine : Engine) (clients : Slab ClientConnection) (steps : History) : Type 0 where
-  pub carries : (pasts : List Past) × CarriesSocketLogs pasts engine steps no_logs
+  pub carries : CarriesAll engine steps
   pub opened : connection_steps engine.conn steps ≢ []
   pub apart : (key : ℕ) (client : ClientConnection) → IsAt clients key client → client.engine.conn ≢ engine.conn
 
 -- the steps that a seat has made so far
 abbrev pub steps_of : SeatedFacts Event Answer Origin → History
 steps_of seat = own_steps seat.pass.number seat.pass.known.seen
+
+-- STALLED
+
+-- the client at this key is stalled at this moment, and for no other stalled one more bytes wait
+pub record IsMostStalled (now : ℕ) (clients : Slab ClientConnection) (key : ℕ) : Type 0 where
+  pub client : ClientConnection
+  pub there : IsAt clients key client
+  pub is_stalled : 0 < stalled_bytes now client.waiting
+  pub most : (other : ℕ) (one : ClientConnection) → IsAt clients other one
+      → stalled_bytes now one.waiting ≤ stalled_bytes now client.waiting
+
+-- no client is stalled at this moment
+abbrev pub NoneIsStalled : ℕ → Slab ClientConnection → Type 0
+NoneIsStalled now clients = (key : ℕ) (client : ClientConnection) → IsAt clients key client → stalled_bytes now client.waiting ≡ 0
+
+-- Of the clients with keys below this one none has more stalled bytes; where it has some they are a client's.
+pub record IsMostBelow (now : ℕ) (clients : Slab ClientConnection) (end : ℕ) (most : Stalled) : Type 0 where
+  pub below : (key : ℕ) (client : ClientConnection) → key < end → IsAt clients key client
+      → stalled_bytes now client.waiting ≤ most.bytes
+  pub there : 0 < most.bytes → (client : ClientConnection) × IsAt clients most.key client
+      × (stalled_bytes now client.waiting ≡ most.bytes)
 
 -- CHANGES
 
@@ -135,6 +157,10 @@ pub record AddsClient (old new : WorkerConnectionsState) : Type 0 where
 -- a client has come, under the key that was the next one
 abbrev pub HasNewClient : WorkerConnectionsState → WorkerConnectionsState → Type 0
 HasNewClient old new = (client : ClientConnection) × IsAt new.clients old.clients.vacant_key client
+
+-- a write to the client at this key, if there is one, has failed or was broken off
+abbrev pub HasFailed : Slab ClientConnection → ℕ → Type 0
+HasFailed clients key = (client : ClientConnection) → IsAt clients key client → client.engine.outbox.passed.has_failed ≡ true
 
 -- the client at this key, if there is one, is gone, and nothing else has changed
 pub record RemovesClient (key : ℕ) (old new : WorkerConnectionsState) : Type 0 where

@@ -1,21 +1,29 @@
 //! A client's connection, as its worker holds it.
-ghost use Rattle.std.specs.Prelude.{◌≡◌, ◌≢◌, ◌⊎◌, true, false, Some, Ok, Err, IfOk, IfErr, IfSome, OnErr};
+ghost use Rattle.std.specs.Prelude.{◌≡◌, ◌≢◌, ◌⊎◌, ◌↔◌, ◌+◌, ◌-◌, true, false, Some, Ok, Err, IfOk, IfErr, IfSome, IsTrue, OnErr};
 ghost use Rattle.proxy_engines.specs.Keeps.{KeepsSocket};
 ghost use Rattle.proxy_engines.specs.OneTurn.{IsDueError};
 ghost use Rattle.proxy_engines.specs.Turns.{own_history};
+ghost use Rattle.journal_budget.specs.Budget.{capped};
+ghost use Rattle.journal_budget.specs.ReplySizes.{charge_for};
 ghost use Rattle.proxy_connections.specs.Room.{HasRoom};
 ghost use Rattle.proxy_connections.specs.Stages.{ComesTo, HasGoneOut, HasPassedAll, IsOverAt, MayGoOver, PassesOn, TellsClosed, TellsEnd, end_of, is_lingering};
 ghost use Rattle.proxy_connections.specs.Sockets.{CarriesItsSocket, MayDrain, OpensSocket};
+ghost use Rattle.proxy_connections.specs.WaitingOutput.{IsHeldBack, stalled_bytes};
 
 use crate::socket::{Reader, SharedStream, Socket, Writer, note_readable, note_writable};
 use crate::stage::{EngineEnd, SocketStage};
 use crate::step_error::StepError;
-use journal_room::{HeldTurns, JournalRoom, MeteredTurns, OpenConnection, TurnCounts};
-use limits::{LINGER_MS, MAX_SPARED};
+use crate::waiting_output::{MAX_USUAL, WaitingOutput};
+use close_behind::CloseBehind;
+use journal_budget::ReplySizes;
+use journal_room::{
+    CommandNeeds, HeldTurns, JournalRoom, MeteredTurns, OpenConnection, TurnCounts,
+};
+use limits::{LINGER_MS, MAX_BUFFERED, MAX_SPARED};
 use mio::event::Event as Readiness;
 use mio::{Registry, Token};
 use open_sockets::{AdmittedStream, OpenSocket};
-use proxy_engines::{ClientEngine, EngineError, Progress, Rest};
+use proxy_engines::{ClientEnds, ClientEngine, EngineError, Progress, Rest};
 use proxy_exit_status::Ending;
 use proxy_histogram::{Histogram, Unanswered};
 use proxy_serve_core::Refusals;
@@ -37,12 +45,20 @@ pub(crate) struct ClientRound<'a> {
     pub(crate) reserve: u64,
     pub(crate) most_parts: u64,
     pub(crate) carries_over: bool,
+    pub(crate) buffers_all: bool,
+}
+
+/// An accepted socket, which is counted, and what closes its connection.
+#[derive(Drop)]
+pub(crate) struct NewSocket<'a> {
+    pub(crate) stream: AdmittedStream,
+    pub(crate) open_connection: OpenConnection,
+    pub(crate) behind: &'a CloseBehind,
 }
 
 /// Where a connection is opened on a carried-over socket.
 #[derive(Clone, Copy, Drop)]
 pub(crate) struct Opening<'a> {
-    pub(crate) alloc: Global,
     pub(crate) registry: &'a Registry,
     pub(crate) token: Token,
 }
@@ -94,7 +110,11 @@ pub enum Stepped {
 }
 
 /// A socket on its way to the next generation, with its input that no command was made of and its unwritten output.
+///
+/// A connection is opened on it there. Where it is dropped it is closed: the system gets what it takes of the output at once,
+/// and the input that has come is discarded.
 pub struct CarriedSocket {
+    alloc: Global,
     stream: SharedStream,
     open_socket: OpenSocket,
     reader: Reader,
@@ -102,18 +122,26 @@ pub struct CarriedSocket {
     rest: Rest,
     // The bytes that had come when a command was last accepted.
     begun: u64,
+    waiting: WaitingOutput,
+    sizes: ReplySizes,
 }
 
 impl Drop for CarriedSocket {
     fn drop(self) {
         let CarriedSocket {
-            stream: _,
+            alloc,
+            stream,
             open_socket: _,
-            reader: _,
-            writer: _,
+            mut reader,
+            mut writer,
             rest: _,
             begun: _,
+            waiting: _,
+            sizes: _,
         } = self;
+        writer.write_out(&mut Vec::new(alloc));
+        stream.shut_write();
+        let _ = reader.throw_away();
     }
 }
 
@@ -129,19 +157,11 @@ impl Model for CarriedSocket {
 }
 
 impl CarriedSocket {
-    /// The newest generation takes no further connection.
-    pub(crate) fn shut_down(&mut self, buffer: &mut Vec<u8>) {
-        self.writer.write_out(buffer);
-        self.stream.shut_write();
-        let _ = self.reader.throw_away();
-    }
-
-    // The socket is registered with the poll. It comes back if the turn is refused.
+    // It comes back if the turn is refused.
     fn into_client<R: Wait, T: HeldTurns>(
         self,
         rt: &R,
         turns: &mut MeteredTurns<T>,
-        opening: Opening<'_>,
         open_connection: OpenConnection,
     ) -> Result<ClientConnection, (EngineError, CarriedSocket)>
         ensures ok { IfOk result (λ c. OpensSocket c.engine
@@ -151,39 +171,43 @@ impl CarriedSocket {
             ≡ own_history (T.facts turns.old.turns)) }
     {
         let CarriedSocket {
+            alloc,
             stream,
             open_socket,
             mut reader,
             mut writer,
             rest,
             begun,
+            waiting,
+            sizes,
         } = self;
         reader.set_readable();
         writer.set_writable();
         let unfinished = reader.count().saturating_sub(begun);
         match ClientEngine::open_with(rt, turns, reader, writer, rest) {
             Ok(engine) => {
-                let counted = Counted {
-                    open_socket,
-                    open_connection,
-                };
-                let mut client = ClientConnection::new(opening.alloc, engine, stream, counted);
+                let counted = Counted::of(open_socket, open_connection);
+                let mut client = ClientConnection::new(alloc, engine, stream, counted);
                 client.begun = begun;
+                client.sizes = sizes;
                 client.unfinished = unfinished;
+                client.waiting = waiting;
                 Ok(client)
             }
-            Err((error, reader, writer, rest)) => {
-                stream.deregister(opening.registry);
-                let carried = CarriedSocket {
+            Err((error, reader, writer, rest)) => Err((
+                error,
+                CarriedSocket {
+                    alloc,
                     stream,
                     open_socket,
                     reader,
                     writer,
                     rest,
                     begun,
-                };
-                Err((error, carried))
-            }
+                    waiting,
+                    sizes,
+                },
+            )),
         }
     }
 }
@@ -193,6 +217,15 @@ impl CarriedSocket {
 struct Counted {
     open_socket: OpenSocket,
     open_connection: OpenConnection,
+}
+
+impl Counted {
+    fn of(open_socket: OpenSocket, open_connection: OpenConnection) -> Counted {
+        Counted {
+            open_socket,
+            open_connection,
+        }
+    }
 }
 
 pub(crate) struct ClientConnection {
@@ -208,6 +241,10 @@ pub(crate) struct ClientConnection {
     begun: u64,
     // The bytes that came since.
     unfinished: u64,
+    waiting: WaitingOutput,
+    sizes: ReplySizes,
+    // What the room knows of its charge.
+    charged: u64,
 
     ghost over: { IsOverAt stage engine },
 
@@ -226,6 +263,9 @@ impl Drop for ClientConnection {
             refusals: _,
             begun: _,
             unfinished: _,
+            waiting: _,
+            sizes: _,
+            charged: _,
         } = self;
     }
 }
@@ -250,6 +290,9 @@ impl ClientConnection {
             refusals: Refusals::new(),
             begun: 0,
             unfinished: 0,
+            waiting: WaitingOutput::new(),
+            sizes: ReplySizes::new(),
+            charged: 0,
         }
     }
 
@@ -257,8 +300,7 @@ impl ClientConnection {
         rt: &R,
         alloc: Global,
         turns: &mut MeteredTurns<T>,
-        stream: AdmittedStream,
-        open_connection: OpenConnection,
+        new: NewSocket<'_>,
     ) -> Result<ClientConnection, EngineError>
         ensures ok { IfOk result (λ c. OpensSocket c.engine
             (own_history (T.facts turns.old.turns))
@@ -266,6 +308,11 @@ impl ClientConnection {
         ensures err { OnErr result (own_history (T.facts turns.new.turns)
             ≡ own_history (T.facts turns.old.turns)) }
     {
+        let NewSocket {
+            stream,
+            open_connection,
+            behind,
+        } = new;
         let (stream, open_socket) = stream.into_parts();
         let Ok(
             Socket {
@@ -277,11 +324,16 @@ impl ClientConnection {
         else {
             return Err(EngineError::NoMemory);
         };
-        let engine = ClientEngine::open(rt, alloc, turns, reader, writer)?;
-        let counted = Counted {
-            open_socket,
-            open_connection,
+        let Ok(behind) = behind.share() else {
+            return Err(EngineError::NoMemory);
         };
+        let ends = ClientEnds {
+            reader,
+            writer,
+            behind,
+        };
+        let engine = ClientEngine::open(rt, alloc, turns, ends)?;
+        let counted = Counted::of(open_socket, open_connection);
         Ok(ClientConnection::new(alloc, engine, stream, counted))
     }
 
@@ -305,7 +357,13 @@ impl ClientConnection {
         {
             return Err((EngineError::ReadFailed, carried));
         }
-        carried.into_client(rt, turns, opening, open_connection)
+        match carried.into_client(rt, turns, open_connection) {
+            Ok(client) => Ok(client),
+            Err((error, carried)) => {
+                carried.stream.deregister(opening.registry);
+                Err((error, carried))
+            }
+        }
     }
 
     pub(crate) fn note_carried(&self, room: &JournalRoom) {
@@ -313,7 +371,12 @@ impl ClientConnection {
     }
 
     /// Its socket, with its unused input, for another generation.
-    pub(crate) fn carry(self, registry: &Registry, room: &JournalRoom) -> CarriedSocket
+    pub(crate) fn carry(
+        self,
+        alloc: Global,
+        registry: &Registry,
+        room: &JournalRoom,
+    ) -> CarriedSocket
         requires carries { CarriesItsSocket self.engine }
         requires may { MayGoOver self.engine }
     {
@@ -323,6 +386,9 @@ impl ClientConnection {
             counted,
             begun,
             unfinished,
+            waiting,
+            sizes,
+            charged: _,
             stage: _,
             waits: _,
             has_more: _,
@@ -338,12 +404,15 @@ impl ClientConnection {
             open_connection: _,
         } = counted;
         CarriedSocket {
+            alloc,
             stream,
             open_socket,
             reader,
             writer,
             rest,
             begun,
+            waiting,
+            sizes,
         }
     }
 
@@ -429,16 +498,20 @@ impl ClientConnection {
         ensures left { self.old.stage ≡ SocketStage.Served → IfSome (end_of self.new.stage)
             (ComesTo (IsDueError (T.cause (T.facts turns.new.turns).setting)
             (T.facts turns.new.turns).seen) self.new.engine) }
+        ensures held { IsHeldBack self.old.engine → self.old.stage ≡ SocketStage.Served
+            → PassesOn self.old.engine self.new.engine }
         ensures closed { result ≡ Ok Stepped.Closed → (is_lingering self.new.stage ≡ true)
             × HasPassedAll self.new.engine.outbox }
         ensures carried { result ≡ Ok Stepped.CarriedOver → MayGoOver self.new.engine }
     {
         self.has_more = false;
         match self.stage {
+            SocketStage::Served if self.is_held_back() => self.relieve(&mut lent.buffer),
             SocketStage::Served => self.step_and_write(rt, turns, lent, round)?,
             SocketStage::Leaving { .. } => self.write_out(&mut lent.buffer),
             SocketStage::Lingering { .. } => {}
         }
+        self.note_waiting(round.now);
         if matches!(self.stage, SocketStage::Leaving { .. })
             && round.carries_over
             && self.may_carry_over()
@@ -446,6 +519,67 @@ impl ClientConnection {
             return Ok(Stepped::CarriedOver);
         }
         Ok(self.finish_closing(round))
+    }
+
+    // While more than usual waits for its socket, nothing is taken in.
+    fn is_held_back(&self) -> bool
+        ensures { IsTrue result ↔ IsHeldBack self.now.engine }
+    {
+        let writer = self.engine.writer();
+        writer.buffered() as u64 > MAX_USUAL && !writer.is_broken() && !self.engine.is_drained()
+    }
+
+    fn relieve(&mut self, buffer: &mut Vec<u8>)
+        ensures engine { PassesOn self.old.engine self.new.engine }
+        ensures stage { self.new.stage ≡ self.old.stage }
+    {
+        self.write_out(buffer);
+        self.has_more = !self.is_held_back();
+    }
+
+    // What waits within a buffer's usual bounds isn't told.
+    fn note_waiting(&mut self, now: u64)
+        ensures engine { self.new.engine ≡ self.old.engine }
+        ensures stage { self.new.stage ≡ self.old.stage }
+    {
+        let bytes = self.engine.writer().buffered() as u64;
+        self.waiting.note(bytes, now);
+        let told = if bytes > MAX_USUAL { bytes } else { 0 };
+        self.counted.open_socket.note_waiting(told);
+    }
+
+    // Once it takes in nothing more, its answers don't wait for its socket: they go over with it.
+    fn set_bound(&mut self, round: ClientRound<'_>)
+        ensures engine { self.new.engine ≡ self.old.engine }
+        ensures stage { self.new.stage ≡ self.old.stage }
+    {
+        let goes_over = round.carries_over && self.engine.is_drained();
+        let bound = if goes_over && round.buffers_all {
+            usize::MAX
+        } else {
+            MAX_BUFFERED
+        };
+        self.engine.writer_mut().set_bound(bound);
+    }
+
+    /// The bytes that wait for its socket, if that is stalled, else 0.
+    pub(crate) fn stalled_bytes(&self, now: u64) -> u64
+        ensures { result ≡ stalled_bytes now self.now.waiting }
+    {
+        self.waiting.stalled_bytes(now)
+    }
+
+    /// Ends the connection: its socket takes and gives nothing more.
+    pub(crate) fn break_off(&mut self)
+        ensures engine { PassesOn self.old.engine self.new.engine }
+        ensures failed { self.new.engine.outbox.passed.has_failed ≡ true }
+        ensures stage { self.new.stage ≡ self.old.stage }
+    {
+        self.engine.writer_mut().break_off();
+        self.engine.reader_mut().break_off();
+        self.counted.open_socket.note_waiting(0);
+        self.waiting = WaitingOutput::new();
+        self.has_more = true;
     }
 
     fn step_and_write<R: Wait, T: HeldTurns>(
@@ -464,11 +598,14 @@ impl ClientConnection {
             (T.facts turns.new.turns).seen) self.new.engine) }
     {
         self.lend_buffer(&mut lent.buffer);
+        self.set_bound(round);
         let stepped = self.step_engine(rt, turns, round);
         let counts = turns.leave_with_counts();
         self.waits.accepted(round.now, counts.accepted);
         self.waits
-            .answered(round.now, counts.handed, &mut lent.durations);
+            .answered(round.now, counts.handed.count, &mut lent.durations);
+        self.note_replies(round.room, counts);
+        self.lower_charge(rt, turns, round.room);
         self.count_unfinished_bytes(round.room, counts);
         self.write_out(&mut lent.buffer);
         self.has_more = self.has_more || stepped.is_err();
@@ -637,8 +774,62 @@ impl ClientConnection {
         }
         *room_for = Some(turns.counts().accepted);
         let room = round.room;
-        if !room.takes_command(rt, turns, self.unfinished, round.reserve) {
+        let needs = self.needs(round.reserve);
+        if !room.takes_command(rt, turns, needs, &mut self.charged) {
             self.stop_accepting(room);
+        }
+    }
+
+    fn needs(&self, reserve: u64) -> CommandNeeds
+        ensures unfinished { result.unfinished ≡ self.now.unfinished }
+        ensures reserve { result.reserve ≡ reserve }
+        ensures charge { result.charge ≡ charge_for
+            (capped (self.now.engine.accepted - self.now.engine.handed + 1)) self.now.sizes }
+    {
+        let commands = self.engine.unanswered().saturating_add(1);
+        CommandNeeds {
+            unfinished: self.unfinished,
+            reserve,
+            charge: self.sizes.charge(commands),
+        }
+    }
+
+    // After want of room a short answer may be an error.
+    fn note_replies(&mut self, room: &JournalRoom, counts: TurnCounts)
+        ensures engine { self.new.engine ≡ self.old.engine }
+        ensures stage { self.new.stage ≡ self.old.stage }
+    {
+        let handed = counts.handed;
+        if handed.count == 0 {
+            return;
+        }
+        self.sizes.note(if room.ran_short() {
+            handed.with_lost()
+        } else {
+            handed
+        });
+    }
+
+    // It ends with the connection.
+    fn lower_charge<R: Wait, T: HeldTurns>(
+        &mut self,
+        rt: &R,
+        turns: &mut MeteredTurns<T>,
+        room: &JournalRoom,
+    )
+        ensures engine { self.new.engine ≡ self.old.engine }
+        ensures stage { self.new.stage ≡ self.old.stage }
+        ensures turns { turns.new.turns ≡ turns.old.turns }
+        ensures left { IfSome (end_of self.old.stage) (λ end. self.new.charged ≡ 0) }
+        ensures served { self.old.stage ≡ SocketStage.Served → self.new.charged
+            ≡ charge_for (self.old.engine.accepted - self.old.engine.handed) self.old.sizes }
+    {
+        let charge = match self.stage {
+            SocketStage::Served => self.sizes.charge(self.engine.unanswered()),
+            SocketStage::Leaving { .. } | SocketStage::Lingering { .. } => 0,
+        };
+        if charge != self.charged {
+            room.charge(rt, turns, charge, &mut self.charged);
         }
     }
 
@@ -734,9 +925,7 @@ impl ClientConnection {
         let grows = unfinished > self.unfinished;
         self.unfinished = unfinished;
         if grows && unfinished > MAX_SPARED && room.is_overfull() {
-            self.engine.writer_mut().break_off();
-            self.engine.reader_mut().break_off();
-            self.has_more = true;
+            self.break_off();
         }
     }
 

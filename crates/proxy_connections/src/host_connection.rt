@@ -7,13 +7,14 @@ ghost use Rattle.proxy_engines.specs.Turns.{own_history};
 ghost use Rattle.proxy_connections.specs.Sockets.{KeepsHost};
 ghost use Rattle.proxy_connections.specs.WorkerConnections.{CarriesLink};
 
+use crate::host_fault::{HostFault, LostLink};
 use crate::host_link::{HostLink, LinkState};
 use crate::round::HostRound;
 use crate::socket::{Reader, Socket, Writer, note_readable, note_writable};
 use crate::step_error::StepError;
 use fresh_stream::{Connected, FreshStream};
 use journal_room::{HeldTurns, JournalRoom, MeteredTurns, TurnCounts};
-use limits::{MAX_HOSTS, TELL_MS};
+use limits::MAX_HOSTS;
 use mio::Token;
 use mio::event::Event as Readiness;
 use proxy_engines::{EngineError, HostEngine, Progress};
@@ -34,18 +35,16 @@ type Engine = HostEngine<Reader, Writer>;
 #[derive(Clone, Copy, Drop)]
 enum HostMoved {
     On,
-    /// A connection attempt was refused.
-    Refused,
     Waits,
 }
 
 /// What came of a host's round.
 #[derive(Clone, Copy, Drop)]
 pub enum HostStepped {
-    /// Nothing is to be logged.
+    /// No link ended on which something was asked.
     Done,
-    /// The host couldn't be reached, and this is to be logged.
-    Unreachable,
+    /// A link ended so, or none could be made.
+    Faulty(LostLink),
 }
 
 pub(crate) struct HostConnection {
@@ -60,7 +59,10 @@ pub(crate) struct HostConnection {
     begun: u64,
     // The bytes of a large unfinished reply that were reported.
     coming: u64,
-    logged_at: Option<u64>,
+    // A part had no reply at the last look.
+    is_asked: bool,
+    // It is still to be told.
+    lost_link: Option<LostLink>,
 }
 
 impl Drop for HostConnection {
@@ -74,7 +76,8 @@ impl Drop for HostConnection {
             refusals: _,
             begun: _,
             coming: _,
-            logged_at: _,
+            is_asked: _,
+            lost_link: _,
         } = self;
     }
 }
@@ -100,7 +103,8 @@ impl HostConnection {
             refusals: Refusals::new(),
             begun: 0,
             coming: 0,
-            logged_at: None,
+            is_asked: false,
+            lost_link: None,
         }
     }
 
@@ -179,10 +183,7 @@ impl HostConnection {
         self.write_out(buffer);
         self.has_more = self.has_more || stepped.is_err();
         match stepped {
-            Ok(HostStepped::Unreachable) if self.note_log_due(round.now) => {
-                Ok(HostStepped::Unreachable)
-            }
-            Ok(_) => Ok(HostStepped::Done),
+            Ok(()) => Ok(self.take_stepped()),
             Err(StepError::Memory) if self.refusals.refused() => Err(StepError::Ends(
                 Ending::Memory,
             )),
@@ -190,18 +191,14 @@ impl HostConnection {
         }
     }
 
-    fn note_log_due(&mut self, now: u64) -> bool
+    fn take_stepped(&mut self) -> HostStepped
         ensures engine { self.new.engine ≡ self.old.engine }
         ensures address { self.new.link ≡ self.old.link }
     {
-        let is_due = match self.logged_at {
-            None => true,
-            Some(logged_at) => now.saturating_sub(logged_at) >= TELL_MS,
-        };
-        if is_due {
-            self.logged_at = Some(now);
+        match self.lost_link.take() {
+            Some(lost_link) => HostStepped::Faulty(lost_link),
+            None => HostStepped::Done,
         }
-        is_due
     }
 
     fn lend_buffer(&mut self, buffer: &mut Vec<u8>)
@@ -242,28 +239,78 @@ impl HostConnection {
         }
     }
 
-    // It stops after `MAX_HOST_STEPS`. Unreachable: a connection attempt was refused.
+    // It stops after `MAX_HOST_STEPS`, and behind a fault that is to be told.
     fn step_engine<R: Wait + Net, T: HeldTurns>(
         &mut self,
         rt: &R,
         turns: &mut MeteredTurns<T>,
         round: HostRound<'_>,
-    ) -> Result<HostStepped, StepError>
+    ) -> Result<(), StepError>
         ensures keeps { KeepsHost (ends_of self.old.engine) (ends_of self.new.engine)
             (own_history (T.facts turns.old.turns))
             (own_history (T.facts turns.new.turns)) }
         ensures address { self.new.link ≡ self.old.link }
     {
-        let mut came_to = HostStepped::Done;
         for _ in 0..MAX_HOST_STEPS {
-            match self.go_on(rt, turns, round)? {
+            match self.go_on_noting(rt, turns, round)? {
                 HostMoved::On => {}
-                HostMoved::Refused => came_to = HostStepped::Unreachable,
-                HostMoved::Waits => return Ok(came_to),
+                HostMoved::Waits => return Ok(()),
             }
         }
         self.has_more = true;
-        Ok(came_to)
+        Ok(())
+    }
+
+    // As `go_on`. A fault that is to be told ends the round.
+    fn go_on_noting<R: Wait + Net, T: HeldTurns>(
+        &mut self,
+        rt: &R,
+        turns: &mut MeteredTurns<T>,
+        round: HostRound<'_>,
+    ) -> Result<HostMoved, StepError>
+        ensures keeps { KeepsHost (ends_of self.old.engine) (ends_of self.new.engine)
+            (own_history (T.facts turns.old.turns))
+            (own_history (T.facts turns.new.turns)) }
+        ensures address { self.new.link ≡ self.old.link }
+    {
+        let before = *turns.counts();
+        self.is_asked = self.engine.awaits_reply();
+        let moved = self.go_on(rt, turns, round);
+        self.note_fault(before, *turns.counts(), round.gives_up);
+        self.end_behind_fault(moved)
+    }
+
+    fn note_fault(&mut self, before: TurnCounts, now: TurnCounts, gives_up: bool)
+        ensures engine { self.new.engine ≡ self.old.engine }
+        ensures address { self.new.link ≡ self.old.link }
+    {
+        if now.faults == before.faults {
+            return;
+        }
+        let lost = now.lost.saturating_sub(before.lost);
+        if let Some(fault) = self.engine.last_fault() {
+            let host = self.engine.host();
+            self.lost_link = match HostFault::of(fault, self.is_asked, gives_up) {
+                Some(fault) => Some(LostLink { host, fault, lost }),
+                None => None,
+            };
+        }
+    }
+
+    fn end_behind_fault(
+        &mut self,
+        moved: Result<HostMoved, StepError>,
+    ) -> Result<HostMoved, StepError>
+        ensures engine { self.new.engine ≡ self.old.engine }
+        ensures address { self.new.link ≡ self.old.link }
+    {
+        match moved {
+            Ok(_) if self.lost_link.is_some() => {
+                self.has_more = true;
+                Ok(HostMoved::Waits)
+            }
+            moved => moved,
+        }
     }
 
     // Where a link is needed it is made, or the waiting parts are given up.
@@ -317,7 +364,7 @@ impl HostConnection {
             Connected::Pending => Ok(HostMoved::Waits),
             Connected::Refused => {
                 self.record_unreachable(rt, turns, round.now)?;
-                Ok(HostMoved::Refused)
+                Ok(HostMoved::On)
             }
             Connected::Established => {
                 self.attach()?;
@@ -347,7 +394,7 @@ impl HostConnection {
         match stepped {
             Ok(progress) => Ok(progress),
             Err(error) => {
-                self.handle_error(rt, turns, StepError::from(error), round.now)?;
+                self.handle_error(rt, turns, StepError::from(error), round)?;
                 Ok(Progress::Moved)
             }
         }
@@ -368,6 +415,7 @@ impl HostConnection {
     {
         turns.hold();
         self.send_all(rt, turns, now)?;
+        self.is_asked |= self.engine.awaits_reply();
         if self.may_read() {
             turns.leave();
         }
@@ -438,7 +486,7 @@ impl HostConnection {
         rt: &R,
         turns: &mut MeteredTurns<T>,
         error: StepError,
-        now: u64,
+        round: HostRound<'_>,
     ) -> Result<(), StepError>
         ensures keeps { KeepsHost (ends_of self.old.engine) (ends_of self.new.engine)
             (own_history (T.facts turns.old.turns))
@@ -447,7 +495,10 @@ impl HostConnection {
     {
         match error {
             StepError::EndsOne => Ok(()),
-            StepError::Full => self.give_up(rt, turns, now),
+            StepError::Full => {
+                round.room.note_short();
+                self.give_up(rt, turns, round.now)
+            }
             StepError::Memory | StepError::Ends(_) => Err(error),
         }
     }
@@ -466,6 +517,9 @@ impl HostConnection {
         let count = self.read_count();
         let came = count.unwrap_or(0).saturating_sub(self.begun);
         let has_room = round.room.takes_reply(rt, turns, came, &mut self.coming);
+        if count.is_some() && !has_room {
+            round.room.note_short();
+        }
         count.is_some() && (round.gives_up || !has_room)
     }
 
@@ -497,6 +551,7 @@ impl HostConnection {
             (own_history (T.facts turns.new.turns)) }
         ensures address { self.new.link ≡ self.old.link }
     {
+        self.is_asked |= self.engine.awaits_reply();
         let given_up = self.engine.give_up(rt, turns, now);
         self.link.cut();
         match given_up {

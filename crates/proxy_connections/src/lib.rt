@@ -10,16 +10,20 @@
 
 mod client_connection;
 mod host_connection;
+mod host_fault;
 mod host_link;
 mod laws;
 mod round;
 mod socket;
 mod stage;
+mod stalled;
 mod step_error;
+mod waiting_output;
 mod worker_connections;
 
 pub use client_connection::{CarriedSocket, Stepped};
 pub use host_connection::HostStepped;
+pub use host_fault::{HostFault, LostLink, PassedLimit};
 pub use laws::{assigned_hosts_have_one_pass, hosts_have_their_workers, passes_share_no_host};
 pub use round::Round;
 pub use step_error::StepError;

@@ -23,6 +23,8 @@ pub struct Round<'a> {
     pub ends_inputs: bool,
     /// Whether sockets may go over to a newer generation.
     pub carries_over: bool,
+    /// Whether answers to clients that take in nothing more may be buffered without a bound.
+    pub buffers_all: bool,
 }
 
 /// A worker's round, as far as it is of one host.

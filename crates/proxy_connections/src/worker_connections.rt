@@ -3,14 +3,16 @@ ghost use Rattle.std.specs.Bool.{OnTrue};
 ghost use Rattle.std.specs.Prelude.{◌≡◌, ◌<◌, ◌+◌, [], IfOk, IfSome, None, OnOk, length, map};
 ghost use Rattle.slab.specs.Slab.{HasRoomFor};
 ghost use Rattle.proxy_notices.specs.Places.{hosts_of};
-ghost use Rattle.proxy_connections.specs.WorkerConnections.{AddsClient, ChangesClient, ChangesHost, HasNewClient, IsNewcomer, KeepsClients, LetsGo, MakesRoom, MayCarry, MayClose, RemovesClient, RiseTo, ServesHosts, number_of, steps_of};
+ghost use Rattle.proxy_connections.specs.WorkerConnections.{AddsClient, ChangesClient, ChangesHost, HasFailed, HasNewClient, IsMostStalled, IsNewcomer, KeepsClients, LetsGo, MakesRoom, MayCarry, MayClose, NoneIsStalled, RemovesClient, RiseTo, ServesHosts, number_of, steps_of};
 
 use crate::client_connection::{
-    CarriedSocket, ClientConnection, ClientRound, Lent, Opening, Stepped,
+    CarriedSocket, ClientConnection, ClientRound, Lent, NewSocket, Opening, Stepped,
 };
 use crate::host_connection::{HostConnection, HostStepped};
 use crate::round::{HostRound, Round};
+use crate::stalled;
 use crate::step_error::StepError;
+use close_behind::CloseBehind;
 use journal_budget::StepKind;
 use journal_room::{JournalRoom, MeteredTurns, OpenConnection};
 use mio::event::Event;
@@ -62,6 +64,7 @@ pub struct WorkerConnections<'a> {
     turns: MeteredTurns<Seated<'a, TalliedCore>>,
     place: Place,
     config: &'a Config,
+    behind: &'a CloseBehind,
     clients: Slab<ClientConnection>,
     ready: ReadyClients,
     hosts: Vec<HostConnection>,
@@ -77,6 +80,7 @@ impl Drop for WorkerConnections<'_> {
             turns: _,
             place: _,
             config: _,
+            behind: _,
             clients: _,
             ready: _,
             hosts: _,
@@ -112,12 +116,14 @@ impl<'a> Model for WorkerConnections<'a> {
 }
 
 impl<'a> WorkerConnections<'a> {
-    /// The hosts of the worker at this place, each without a link, and no client. Ends with `Memory` where there is
+    /// The hosts of the worker at this place, each without a link, and no client. Each client's connection is closed behind
+    /// these refused commands. Ends with `Memory` where there is
     /// none for the hosts.
     pub fn new(
         alloc: Global,
         place: Place,
         config: &'a Config,
+        behind: &'a CloseBehind,
         seat: Seated<'a, TalliedCore>,
     ) -> Result<WorkerConnections<'a>, Ending>
         requires { steps_of seat ≡ [] }
@@ -132,6 +138,7 @@ impl<'a> WorkerConnections<'a> {
             turns: MeteredTurns::new(seat),
             place,
             config,
+            behind,
             clients: Slab::new(alloc),
             ready: ReadyClients::new(alloc),
             hosts,
@@ -279,7 +286,12 @@ impl<'a> WorkerConnections<'a> {
         ensures adds { AddsClient self.old self.new }
         ensures there { OnOk result (HasNewClient self.old self.new) }
     {
-        match ClientConnection::open(rt, self.alloc, &mut self.turns, stream, open_connection) {
+        let new = NewSocket {
+            stream,
+            open_connection,
+            behind: self.behind,
+        };
+        match ClientConnection::open(rt, self.alloc, &mut self.turns, new) {
             Ok(client) => {
                 self.insert(round, client);
                 Ok(())
@@ -302,7 +314,6 @@ impl<'a> WorkerConnections<'a> {
         ensures there { OnOk result (HasNewClient self.old self.new) }
     {
         let opening = Opening {
-            alloc: self.alloc,
             registry: round.registry,
             token: Token(self.clients.vacant_key()),
         };
@@ -440,6 +451,27 @@ impl<'a> WorkerConnections<'a> {
         })
     }
 
+    /// The key of the client that is stalled, and for which most bytes wait of all that are. A client is stalled where more
+    /// than 131,072 bytes wait for its socket, and it has taken none of them for a second. `None`: none is.
+    pub fn most_stalled(&self, now: u64) -> Option<usize>
+        ensures some { IfSome result (IsMostStalled now self.now.clients) }
+        ensures none { result ≡ None → NoneIsStalled now self.now.clients }
+    {
+        stalled::most_stalled(&self.clients, now)
+    }
+
+    /// Ends the connection of the client with this key, if there is one: its socket takes and gives nothing more.
+    pub fn break_off(&mut self, key: usize)
+        ensures changes { ChangesClient key self.old self.new }
+        ensures failed { HasFailed self.new.clients key }
+    {
+        let Some(client) = self.clients.get_mut(key) else {
+            return;
+        };
+        client.break_off();
+        self.ready.make_ready(key);
+    }
+
     /// Drops a client whose sending half is closed: what its writer took has passed to the system, or a write failed or was
     /// broken off.
     pub fn remove(&mut self, notices: &Notices, key: usize)
@@ -465,7 +497,7 @@ impl<'a> WorkerConnections<'a> {
         };
         let conn = client.conn();
         round.notices.remove_client(conn, self.place.index, key);
-        client.carry(round.registry, round.room)
+        client.carry(self.alloc, round.registry, round.room)
     }
 
     /// Counts a refusal of memory to a client's socket that would go over. The client tries again, unless too many were
@@ -492,14 +524,6 @@ impl<'a> WorkerConnections<'a> {
         client.shut_down(&mut self.lent.buffer);
         Some(is_cut)
     }
-
-    /// Writes what a carried-over socket takes at once, and closes it.
-    pub fn close_carried(&mut self, mut carried: CarriedSocket)
-        ensures { self.new ≡ self.old }
-    {
-        carried.shut_down(&mut self.lent.buffer);
-        drop(carried);
-    }
 }
 
 // The worker keeps `reserve` steps for its links.
@@ -510,6 +534,7 @@ fn client_round(round: Round<'_>, reserve: u64) -> ClientRound<'_> {
         reserve,
         most_parts: round.most_parts,
         carries_over: round.carries_over,
+        buffers_all: round.buffers_all,
     }
 }
 

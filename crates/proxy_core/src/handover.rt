@@ -1,6 +1,6 @@
-ghost use Rattle.std.specs.Prelude.{◌≡◌, ◌<◌};
+ghost use Rattle.std.specs.Prelude.{◌≡◌, ◌<◌, ◌*◌, min};
 ghost use Rattle.ejector.specs.Opening.{IsOpening};
-ghost use Rattle.ejector.specs.State.{is_out};
+ghost use Rattle.ejector.specs.State.{host_of, is_out};
 
 use ejector::{EjectState, Rules};
 use std::marker::Model;
@@ -71,6 +71,23 @@ impl Handover {
         ensures { result ≡ is_out self.now.detection.state host }
     {
         self.detection.is_out(host)
+    }
+
+    /// The clock at the host's last ejection, 0 without one.
+    pub fn ejected_at(&self, host: usize) -> u64
+        requires { host < self.now.detection.rules.hosts }
+        ensures { result ≡ (host_of self.now.detection.state host).start }
+    {
+        self.detection.ejected_at(host)
+    }
+
+    /// How long the host's ejections last now, in milliseconds.
+    pub fn ejection_ms(&self, host: usize) -> u64
+        requires { host < self.now.detection.rules.hosts }
+        ensures { let rules = self.now.detection.rules in result ≡ min (rules.settings.base_ms
+            * (host_of self.now.detection.state host).multiplier) rules.settings.max_ms }
+    {
+        self.detection.ejection_ms(host)
     }
 
     pub(crate) fn into_detection(self) -> EjectState

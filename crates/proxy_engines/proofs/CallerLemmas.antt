@@ -8,7 +8,7 @@ pub use Rattle.proxy_engines.proofs.LeaveOthersLemmas.{clients_leave_others, hos
 -- what is accepted is the first of what the bytes ask
 pub use Rattle.proxy_engines.proofs.ClientLemmas.{accepted_are_first, accepted_first_of}
 -- a client that ended has accepted all, handed all out and written all
-pub use Rattle.proxy_engines.proofs.ClientLemmas.{ended_is_whole}
+pub use Rattle.proxy_engines.proofs.ClientLemmas.{ended_is_whole, halted_drained}
 -- a socket over its connections
 pub use Rattle.proxy_engines.proofs.SocketLemmas.{socket_begins, socket_moves, socket_stays, socket_goes_over, socket_asks_in_order, socket_answers_in_order, socket_ends_whole}
 -- what engines hold may go to another thread

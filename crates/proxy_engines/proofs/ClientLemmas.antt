@@ -14,8 +14,10 @@ use Rattle.splitter.specs.Requests.{AreRequests, end_of, up_to_last}
 use Rattle.splitter.proofs.CallerLemmas as splits
 use Rattle.proxy_history.specs.History.{History}
 use Rattle.proxy_engines.specs.Ends.{InboxState, Holds, HoldsBehind}
-use Rattle.proxy_engines.specs.Client.{Client, Carries, IsFinished, IsAtStage, IsDone, IsOver, LastFinishes, asked_requests, waiting_requests, intake_of}
-use Rattle.proxy_engines.specs.Laws.{AcceptedAreFirst, EndedIsOver, EndedIsWhole, OthersLeaveClients}
+use Rattle.proxy_engines.specs.Client.{Client, Carries, IsFinished, IsAtStage, IsDone, IsOver, LastCloses, LastFinishes, asked_requests, waiting_requests, intake_of}
+use Rattle.close_behind.specs.CloseBehind.{closes_behind, up_to_closing}
+use Rattle.close_behind.proofs.CallerLemmas.{none_named, up_to_closing-first}
+use Rattle.proxy_engines.specs.Laws.{AcceptedAreFirst, EndedIsAnswered, EndedIsOver, EndedIsWhole, OthersLeaveClients, RefusedClose}
 use Rattle.proxy_engines.specs.declared.client.Stage.{Stage}
 use Rattle.proxy_engines.proofs.ClientMoves.{carries_beside}
 
@@ -118,6 +120,34 @@ ended_is_over e H taken b k is unhalted =
     by : IsFinished (intake_of e H b k.given) → IsAtEnd e.inbox.left ⊎ LastFinishes (asked_requests e.conn H)
     by (inl stays) = inl (at_end stays.1.end)
     by (inr last) = inr last
+
+pub ended_is_answered : EndedIsAnswered
+ended_is_answered e H taken b k is =
+    let at : IsFinished (intake_of e H b k.given) × IsDone e H = subst (λ (z : Stage). IsAtStage z (IsDone e H) (intake_of e H b k.given)) is k.stage_is in
+    (sym k.handed_is ∙ sym at.1.all_handed ∙ k.accepted_is, sym (append-nil taken) ∙ rw at.1.all_written at k.out_is)
+
+pub refused_close : RefusedClose
+refused_close e H taken b k rs are =
+    let more = accepted_first e H taken b k rs are in
+    record {
+      closing = λ yes. (
+        let last : LastCloses e.behind (asked_requests e.conn H) = rw yes at k.closes_is in
+            sym (ap (up_to_closing e.behind) (more.1 ∙ ap (λ z. z ++ more.0) last.are) ∙ up_to_closing-first e.behind last.front last.last more.0 last.goes_on last.closes ∙ sym last.are),
+        (k.halted_is (k.closing_is yes)).stage,
+      );
+      goes_on = λ no. rw no at k.closes_is;
+    }
+
+-- without names reading stops for a drain alone
+pub halted_drained : (e : Client) (H : History) (taken b : List ℕ) → Carries e H taken b → e.behind ≡ record { all = false; names = [] } → e.is_halted ≡ true → e.is_drained ≡ true
+halted_drained e H taken b k unnamed halted = by (k.halted_is halted).drained
+  where
+    by : (e.is_drained ≡ true) ⊎ (e.is_closing ≡ true) → e.is_drained ≡ true
+    by (inl drained) = drained
+    by (inr closing) =
+        let last : LastCloses e.behind (asked_requests e.conn H) = rw closing at k.closes_is in
+        let never : true ≡ false = sym last.closes ∙ ap (λ z. closes_behind z last.last) unnamed ∙ none_named last.last in
+        absurd cc
 
 -- STEPS OF OTHERS
 

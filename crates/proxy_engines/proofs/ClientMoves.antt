@@ -3,12 +3,15 @@ use Rattle.std.proofs.Common.{◌≡◌, ◌≢◌, ◌∙◌, ◌≤◌, ◌+�
 use Rattle.std.specs.Prelude.{IfSome, IfNone, IfOk, Result, Ok, Err, ◌||◌}
 use Rattle.std.specs.Io.KnownBytes.{Consumes, Appends}
 use Rattle.std.proofs.lemmas.List.{map-append}
+use Rattle.std.proofs.lemmas.Bool.{cases_Bool}
 use Rattle.std.proofs.lemmas.List.Elements.{filter-append}
 use Rattle.limits.specs.declared.messages.TheConstants.{MAX_CLIENT_MEMBERS}
 use Rattle.splitter.specs.Request.{Request, request_of}
 use Rattle.splitter.specs.Requests.{finishes}
 use Rattle.splitter.specs.Plan.{is_last}
 use Rattle.splitter.proofs.CallerLemmas.{none_finishes-one}
+use Rattle.close_behind.specs.CloseBehind.{Behind, NoneCloses, closes_behind}
+use Rattle.close_behind.proofs.CallerLemmas.{closing_goes_on, none_closes-one}
 use Rattle.splitter.specs.declared.request.Request.{Request as Request'}
 use Rattle.proxy_history.specs.Setting.{max_steps}
 use Rattle.proxy_history.specs.History.{History, Step, accepted_count, handed_count, requests, is_arrival, is_closed, is_finishing, is_handing}
@@ -20,7 +23,7 @@ use Rattle.proxy_history.specs.declared.answer.Answer.{Answer}
 use Rattle.proxy_history.proofs.CallerLemmas as history
 use Rattle.proxy_engines.specs.Ends.{OutboxState, Sends, InboxState, Holds, HoldsBehind, HasGivenAll, KeepsReader, Reads, Writes}
 use Rattle.journal_core.specs.Journal.{step_by}
-use Rattle.proxy_engines.specs.Client.{Client, Carries, Goes, IsAtStage, IsDone, IsHalted, IsLive, IsOver, IsToldAt, IsUntaken, NoneFinishes, asked_requests, waiting_requests, Intake, intake_of}
+use Rattle.proxy_engines.specs.Client.{Client, Carries, ClosesAt, Goes, IsAtStage, IsDone, IsHalted, IsLive, IsOver, IsToldAt, IsUntaken, NoneFinishes, asked_requests, waiting_requests, Intake, intake_of}
 use Rattle.proxy_engines.specs.Moves.{has_moved, AsTold, IsEndOf, last_text, text_handed, told_by_step}
 use Rattle.proxy_engines.proofs.MoveLemmas.{end_then, has_moved-append, whole_end}
 use Rattle.proxy_engines.proofs.InboxLemmas.{behind_all, behind_kept, behind_more, behind_read, kept_then}
@@ -79,9 +82,9 @@ untaken : (old new : Client) → new.accepted ≡ old.accepted → new.next ≡ 
 untaken old new accepted next = λ _ _. record { accepted = accepted; next = next }
 
 -- no bytes, and one step of the connection
-turn_goes : (old new : Client) (H : History) (s : Step) → is_connection_step old.conn s.event s.answer ≡ true → IsEndOf new.outbox.pending (last_text text_handed old.outbox.pending (s ∷ [])) → TakesFit old new → new.conn ≡ old.conn → new.is_drained ≡ old.is_drained → KeepsReader old.inbox new.inbox → (new.outbox.held ≡ old.outbox.held) × (new.outbox.taken ≡ old.outbox.taken)
+turn_goes : (old new : Client) (H : History) (s : Step) → is_connection_step old.conn s.event s.answer ≡ true → IsEndOf new.outbox.pending (last_text text_handed old.outbox.pending (s ∷ [])) → TakesFit old new → new.conn ≡ old.conn → new.is_drained ≡ old.is_drained → new.behind ≡ old.behind → KeepsReader old.inbox new.inbox → (new.outbox.held ≡ old.outbox.held) × (new.outbox.taken ≡ old.outbox.taken)
     → ((taken b : List ℕ) → Carries old H taken b → Carries new (s ∷ H) taken b) → Goes old new H (s ∷ H) true
-turn_goes old new H s mine one takes conn drained kept wrote f = record {
+turn_goes old new H s mine one takes conn drained behind kept wrote f = record {
   got = [];
   gave = [];
   steps = s ∷ [];
@@ -89,6 +92,7 @@ turn_goes old new H s mine one takes conn drained kept wrote f = record {
   writes = writes-none old.outbox new.outbox wrote;
   conn = conn;
   drained = drained;
+  behind = behind;
   unread = λ _. record { none = refl; kept = kept };
   untaken = takes;
   adds = refl;
@@ -99,9 +103,9 @@ turn_goes old new H s mine one takes conn drained kept wrote f = record {
 }
 
 -- no bytes, and no step
-still_goes : (old new : Client) (H : History) → TakesFit old new → new.conn ≡ old.conn → new.is_drained ≡ old.is_drained → KeepsReader old.inbox new.inbox → new.outbox ≡ old.outbox
+still_goes : (old new : Client) (H : History) → TakesFit old new → new.conn ≡ old.conn → new.is_drained ≡ old.is_drained → new.behind ≡ old.behind → KeepsReader old.inbox new.inbox → new.outbox ≡ old.outbox
     → ((taken b : List ℕ) → Carries old H taken b → Carries new H taken b) → Goes old new H H false
-still_goes old new H takes conn drained kept outbox f = record {
+still_goes old new H takes conn drained behind kept outbox f = record {
   got = [];
   gave = [];
   steps = [];
@@ -109,6 +113,7 @@ still_goes old new H takes conn drained kept outbox f = record {
   writes = writes-none old.outbox new.outbox (ap (λ (o : OutboxState). o.held) outbox, ap (λ (o : OutboxState). o.taken) outbox);
   conn = conn;
   drained = drained;
+  behind = behind;
   unread = λ _. record { none = refl; kept = kept };
   untaken = takes;
   adds = refl;
@@ -120,7 +125,7 @@ still_goes old new H takes conn drained kept outbox f = record {
 
 -- nothing at all
 pub same_goes : (e : Client) (H H' : History) → H' ≡ H → Goes e e H H' false
-same_goes e H H' same = rw same (still_goes e e H (untaken e e refl refl) refl refl (refl, refl, refl) refl (λ taken b k. k))
+same_goes e H H' same = rw same (still_goes e e H (untaken e e refl refl) refl refl refl (refl, refl, refl) refl (λ taken b k. k))
 
 -- a turn that wasn't answered
 pub unanswered_goes : (e : Client) (H H' : History) (result : Result Progress EngineError) → H' ≡ H → IfOk result (λ p. p ≡ Progress.Idle) → AsTold (Goes e e H H') (told_by_step result)
@@ -137,6 +142,7 @@ goes_then a b c x y z m n p q = record {
   writes = writes-append a.outbox b.outbox c.outbox p.gave q.gave p.writes q.writes;
   conn = q.conn ∙ p.conn;
   drained = q.drained ∙ p.drained;
+  behind = q.behind ∙ p.behind;
   unread = λ d. let first = p.unread d in let second = q.unread (p.drained ∙ d) in record { none = rw (first.none, second.none) refl; kept = kept_then a.inbox b.inbox c.inbox first.kept second.kept };
   untaken = λ d fit.
       let first = p.untaken d fit in
@@ -205,11 +211,13 @@ module _ (e : Client) (pass : ℕ) (H : History) (t : List ℕ) where
         handed_is = rw mine (omega (arith, k.handed_is, few, history.times-length (is_handing e.conn) H));
         stage_is = rw same (live_stage e.stage (IsDone e H) _ (intake_of e H b k.given) live k.stage_is);
         halted_is = λ h. let x = k.halted_is h in record { drained = x.drained; stage = x.stage; unbroken = x.unbroken; goes_on = rw same x.goes_on };
+        closes_is = rw same k.closes_is;
+        closing_is = k.closing_is;
         told_is = k.told_is;
       }
 
   pub handed_goes : length (step_by pass (Event.Handed e.conn) (Answer.Bytes t) ∷ H) ≤ max_steps → e.outbox.pending ≡ [] → IsLive e.stage → Goes e after_hand H (step_by pass (Event.Handed e.conn) (Answer.Bytes t) ∷ H) true
-  handed_goes few empty live = turn_goes e after_hand H (step_by pass (Event.Handed e.conn) (Answer.Bytes t)) (rw (eq-eqb e.conn e.conn refl) refl) (whole_end t) (untaken e after_hand refl refl) refl refl (refl, refl, refl) (refl, refl) (handed_carries few empty live)
+  handed_goes few empty live = turn_goes e after_hand H (step_by pass (Event.Handed e.conn) (Answer.Bytes t)) (rw (eq-eqb e.conn e.conn refl) refl) (whole_end t) (untaken e after_hand refl refl) refl refl refl (refl, refl, refl) (refl, refl) (handed_carries few empty live)
 
 -- STEPS THAT HAND OUT NOTHING AND ACCEPT NOTHING
 
@@ -227,7 +235,7 @@ quiet_goes : (e : Client) (stage : Stage) (s : Step) (H : History) → stage ≢
     → IsAtStage stage (IsDone (record e { stage = stage }) (s ∷ H)) (intake_of e H b given))
     → (IsToldAt e.stage (is_finishing e.conn H) (is_closed e.conn H) → IsToldAt stage (is_finishing e.conn (s ∷ H)) (is_closed e.conn (s ∷ H)))
     → Goes e (record e { stage = stage }) H (s ∷ H) true
-quiet_goes e stage s H past q f told = turn_goes e (record e { stage = stage }) H s q.mine (rw q.no_text (whole_end e.outbox.pending)) (untaken e (record e { stage = stage }) refl refl) refl refl (refl, refl, refl) (refl, refl) (λ taken b k. record {
+quiet_goes e stage s H past q f told = turn_goes e (record e { stage = stage }) H s q.mine (rw q.no_text (whole_end e.outbox.pending)) (untaken e (record e { stage = stage }) refl refl) refl refl refl (refl, refl, refl) (refl, refl) (λ taken b k. record {
   given = k.given;
   out_is = k.out_is ∙ sym q.same_transcript;
   holds = k.holds;
@@ -237,6 +245,8 @@ quiet_goes e stage s H past q f told = turn_goes e (record e { stage = stage }) 
   handed_is = k.handed_is ∙ sym q.same_handed;
   stage_is = rw q.same_requests (f b k.given k.stage_is);
   halted_is = λ h. let x = k.halted_is h in record { drained = x.drained; stage = past; unbroken = x.unbroken; goes_on = rw q.same_requests x.goes_on };
+  closes_is = rw q.same_requests k.closes_is;
+  closing_is = k.closing_is;
   told_is = told k.told_is;
 })
 
@@ -271,7 +281,7 @@ pub cut_goes : (e : Client) (pass : ℕ) (a : Answer) (H : History) → Goes e (
 cut_goes e pass a H = quiet_goes e (Stage.Closed true) (step_by pass (Event.Closed e.conn) a) H (λ o. absurd cc) (quiet_closed e.conn pass a H) (λ b given at. tt) (λ told. rw (eq-eqb e.conn e.conn refl) refl)
 
 pub failed_goes : (e : Client) (H H' : History) → H' ≡ H → Goes e (record e { stage = Stage.Failed }) H H' false
-failed_goes e H H' same = rw same (still_goes e (record e { stage = Stage.Failed }) H (untaken e (record e { stage = Stage.Failed }) refl refl) refl refl (refl, refl, refl) refl (λ taken b k. record {
+failed_goes e H H' same = rw same (still_goes e (record e { stage = Stage.Failed }) H (untaken e (record e { stage = Stage.Failed }) refl refl) refl refl refl (refl, refl, refl) refl (λ taken b k. record {
   given = k.given;
   out_is = k.out_is;
   holds = k.holds;
@@ -281,6 +291,8 @@ failed_goes e H H' same = rw same (still_goes e (record e { stage = Stage.Failed
   handed_is = k.handed_is;
   stage_is = tt;
   halted_is = λ h. let x = k.halted_is h in record { drained = x.drained; stage = λ o. absurd cc; unbroken = x.unbroken; goes_on = x.goes_on };
+  closes_is = k.closes_is;
+  closing_is = k.closing_is;
   told_is = tt;
 }))
 
@@ -303,6 +315,7 @@ wrote_goes e o gave H moved live sends told = record {
   writes = sends.writes;
   conn = refl;
   drained = refl;
+  behind = refl;
   unread = λ _. record { none = refl; kept = (refl, refl, refl) };
   untaken = λ _ _. record { accepted = refl; next = refl };
   adds = refl;
@@ -319,51 +332,103 @@ wrote_goes e o gave H moved live sends told = record {
     handed_is = k.handed_is;
     stage_is = live_stage e.stage (IsDone e H) _ (intake_of e H b k.given) live k.stage_is;
     halted_is = λ h. let x = k.halted_is h in record { drained = x.drained; stage = x.stage; unbroken = x.unbroken; goes_on = x.goes_on };
+    closes_is = k.closes_is;
+    closing_is = k.closing_is;
     told_is = k.told_is;
   });
 }
 
 -- A REQUEST IS ACCEPTED
 
+-- what finishes a connection isn't refused
+last_stays : (b : Behind) (r : Request) → finishes r ≡ true → closes_behind b r ≡ false
+last_stays b r last =
+    elim (cases_Bool (closes_behind b r)) [
+      | inl f ↦ let g : true ≡ false = sym last ∙ closing_goes_on b r f in absurd cc
+      | inr f ↦ f
+    ]
+
+-- where nothing has closed none of the requests does
+unclosed : (c : Bool) (b : Behind) (rs : List Request) → (c ≡ true → ⊥) → ClosesAt c b rs → NoneCloses b rs
+unclosed true b rs un at = absurd (un refl)
+unclosed false b rs un none = none
+
 module _ (e : Client) (r : Request') (pass : ℕ) (H : History) (a : Answer) (open_is : e.stage ≡ Stage.Open) (next : e.next ≡ Some r) (last : e.is_drained ≡ true → e.next ≡ Some Request'.Broken) (few : length (step_by pass (Event.Arrived e.conn r) a ∷ H) ≤ max_steps) where
   more_asked : asked_requests e.conn (step_by pass (Event.Arrived e.conn r) a ∷ H) ≡ asked_requests e.conn H ++ request_of r ∷ []
   more_asked = rw (eq-eqb e.conn e.conn refl) (map-append request_of (requests e.conn H) (r ∷ []))
 
-  arrived_as : (stage : Stage)
+  -- what is so after it, by how the engine goes on
+  abbrev arrived_by : Stage → Bool → Bool → Client
+  arrived_by stage halted closing = record e { next = None; accepted = min (e.accepted + 1) (2 ^ 64 - 1); stage = stage; is_halted = halted; is_closing = closing }
+
+  abbrev after_it : History
+  after_it = step_by pass (Event.Arrived e.conn r) a ∷ H
+
+  arrived_as : (stage : Stage) (halted closing : Bool)
       → ((b : List ℕ) (given : List Request) → NoneFinishes (asked_requests e.conn H)
-      → IsAtStage stage (IsDone (record e { next = None; accepted = min (e.accepted + 1) (2 ^ 64 - 1); stage = stage }) (step_by pass (Event.Arrived e.conn r) a ∷ H)) (intake_of (record e { next = None; accepted = min (e.accepted + 1) (2 ^ 64 - 1); stage = stage }) (step_by pass (Event.Arrived e.conn r) a ∷ H) b given))
-      → (is_closed e.conn H ≡ false → IsToldAt stage (is_finishing e.conn (step_by pass (Event.Arrived e.conn r) a ∷ H)) (is_closed e.conn H))
-      → Goes e (record e { next = None; accepted = min (e.accepted + 1) (2 ^ 64 - 1); stage = stage }) H (step_by pass (Event.Arrived e.conn r) a ∷ H) true
-  arrived_as stage f told =
+      → IsAtStage stage (IsDone (arrived_by stage halted closing) after_it) (intake_of (arrived_by stage halted closing) after_it b given))
+      → ((e.is_halted ≡ true → ⊥) → NoneFinishes (asked_requests e.conn H) → halted ≡ true → IsHalted (arrived_by stage halted closing) after_it)
+      → ((e.is_closing ≡ true → ⊥) → ClosesAt e.is_closing e.behind (asked_requests e.conn H) → ClosesAt closing e.behind (asked_requests e.conn after_it))
+      → ((e.is_closing ≡ true → ⊥) → closing ≡ true → halted ≡ true)
+      → (is_closed e.conn H ≡ false → IsToldAt stage (is_finishing e.conn after_it) (is_closed e.conn H))
+      → Goes e (arrived_by stage halted closing) H after_it true
+  arrived_as stage halted closing f halts closes both told =
       let mine : (e.conn == e.conn) ≡ true = eq-eqb e.conn e.conn refl in
-      let new : Client = record e { next = None; accepted = min (e.accepted + 1) (2 ^ 64 - 1); stage = stage } in
-      turn_goes e new H (step_by pass (Event.Arrived e.conn r) a) (rw mine refl) (whole_end e.outbox.pending) (λ d fit. absurd (fit (last d))) refl refl (refl, refl, refl) (refl, refl) (λ taken b k. record {
+      let new : Client = arrived_by stage halted closing in
+      turn_goes e new H (step_by pass (Event.Arrived e.conn r) a) (rw mine refl) (whole_end e.outbox.pending) (λ d fit. absurd (fit (last d))) refl refl refl (refl, refl, refl) (refl, refl) (λ taken b k.
+      let unhalted : e.is_halted ≡ true → ⊥ = open_unhalted e H open_is k.halted_is in
+      let unclosing : e.is_closing ≡ true → ⊥ = λ h. unhalted (k.closing_is h) in
+      let none = stage_at Stage.Open e H b k.given open_is k.stage_is in
+      record {
         given = k.given;
         out_is = k.out_is ∙ sym (append-nil (transcript e.conn H));
         holds = k.holds;
         most_is = k.most_is;
-        given_are = rw next at k.given_are ∙ sym more_asked ∙ sym (append-nil (asked_requests e.conn (step_by pass (Event.Arrived e.conn r) a ∷ H)));
+        given_are = rw next at k.given_are ∙ sym more_asked ∙ sym (append-nil (asked_requests e.conn after_it));
         accepted_is = rw mine (omega (arith, k.accepted_is, few, history.times-length (is_arrival e.conn) H));
         handed_is = k.handed_is;
-        stage_is = f b k.given (stage_at Stage.Open e H b k.given open_is k.stage_is);
-        halted_is = open_unhalted e H open_is k.halted_is;
+        stage_is = f b k.given none;
+        halted_is = halts unhalted none;
+        closes_is = closes unclosing k.closes_is;
+        closing_is = both unclosing;
         told_is = told (rw open_is at k.told_is);
       })
 
-  pub arrived_on : finishes (request_of r) ≡ false → Goes e (record e { next = None; accepted = min (e.accepted + 1) (2 ^ 64 - 1) }) H (step_by pass (Event.Arrived e.conn r) a ∷ H) true
-  arrived_on goes_on =
+  asked_on : finishes (request_of r) ≡ false → NoneFinishes (asked_requests e.conn H) → NoneFinishes (asked_requests e.conn after_it)
+  asked_on goes_on none = subst (λ (z : List Request). NoneFinishes z) (sym more_asked) (none_finishes-one (asked_requests e.conn H) (request_of r) none goes_on)
+
+  closes_on : closes_behind e.behind (request_of r) ≡ false → (e.is_closing ≡ true → ⊥) → ClosesAt e.is_closing e.behind (asked_requests e.conn H) → ClosesAt e.is_closing e.behind (asked_requests e.conn after_it)
+  closes_on stays unclosing now = by e.is_closing unclosing now
+    where
+      by : (c : Bool) → (c ≡ true → ⊥) → ClosesAt c e.behind (asked_requests e.conn H) → ClosesAt c e.behind (asked_requests e.conn after_it)
+      by true un now = absurd (un refl)
+      by false un none = subst (λ (z : List Request). NoneCloses e.behind z) (sym more_asked) (none_closes-one e.behind (asked_requests e.conn H) (request_of r) none stays)
+
+  pub arrived_on : finishes (request_of r) ≡ false → closes_behind e.behind (request_of r) ≡ false → Goes e (record e { next = None; accepted = min (e.accepted + 1) (2 ^ 64 - 1) }) H (step_by pass (Event.Arrived e.conn r) a ∷ H) true
+  arrived_on goes_on stays =
       subst (λ (z : Stage). Goes e (record e { next = None; accepted = min (e.accepted + 1) (2 ^ 64 - 1); stage = z }) H (step_by pass (Event.Arrived e.conn r) a ∷ H) true) (sym open_is)
-      (arrived_as Stage.Open (λ b given none. subst (λ (z : List Request). NoneFinishes z) (sym more_asked) (none_finishes-one (asked_requests e.conn H) (request_of r) none goes_on)) (λ unclosed. unclosed))
+      (arrived_as Stage.Open e.is_halted e.is_closing (λ b given none. asked_on goes_on none) (λ un _ halted. absurd (un halted)) (closes_on stays) (λ un closing. absurd (un closing)) (λ unclosed. unclosed))
 
   pub arrived_last : finishes (request_of r) ≡ true → Goes e (record e { next = None; accepted = min (e.accepted + 1) (2 ^ 64 - 1); stage = Stage.Finishing }) H (step_by pass (Event.Arrived e.conn r) a ∷ H) true
-  arrived_last is_last = arrived_as Stage.Finishing (λ b given none. inr (record { front = asked_requests e.conn H; last = request_of r; are = more_asked; goes_on = none; finishes = is_last })) (λ unclosed. (rw (eq-eqb e.conn e.conn refl, is_last) refl, unclosed))
+  arrived_last is_last = arrived_as Stage.Finishing e.is_halted e.is_closing
+      (λ b given none. inr (record { front = asked_requests e.conn H; last = request_of r; are = more_asked; goes_on = none; finishes = is_last }))
+      (λ un _ halted. absurd (un halted)) (closes_on (last_stays e.behind (request_of r) is_last)) (λ un closing. absurd (un closing)) (λ unclosed. (rw (eq-eqb e.conn e.conn refl, is_last) refl, unclosed))
+
+  pub arrived_closing : closes_behind e.behind (request_of r) ≡ true → Goes e (record e { next = None; accepted = min (e.accepted + 1) (2 ^ 64 - 1); stage = Stage.AtEnd; is_halted = true; is_closing = true }) H (step_by pass (Event.Arrived e.conn r) a ∷ H) true
+  arrived_closing closes =
+      let goes_on : finishes (request_of r) ≡ false = closing_goes_on e.behind (request_of r) closes in
+      arrived_as Stage.AtEnd true true
+      (λ b given none. (asked_on goes_on none, record { end = inl refl; all = λ no. absurd (true_not_false no); none_waits = λ no. absurd (true_not_false no) }))
+      (λ _ none _. record { drained = inr refl; stage = λ o. absurd cc; unbroken = λ o. absurd cc; goes_on = asked_on goes_on none })
+      (λ un now. record { front = asked_requests e.conn H; last = request_of r; are = more_asked; goes_on = unclosed e.is_closing e.behind (asked_requests e.conn H) un now; closes = closes })
+      (λ _ _. refl) (λ unclosed. unclosed)
 
 -- WHAT COMES IN
 
 -- a request has come whole, or none has
 pub fetched_goes : (e : Client) (i : InboxState) (next : Option Request') (H : History) → e.stage ≡ Stage.Open → e.next ≡ None → e.is_drained ≡ false → KeepsReader e.inbox i → i.values.most ≡ e.inbox.values.most
     → ((b : List ℕ) (rs : List Request) → Holds e.inbox b rs → Holds i b (rs ++ waiting_requests next)) → Goes e (record e { inbox = i; next = next }) H H false
-fetched_goes e i next H open_is none reads kept most f = still_goes e (record e { inbox = i; next = next }) H (λ d _. absurd (true_not_false (sym d ∙ reads))) refl refl kept refl (λ taken b k. record {
+fetched_goes e i next H open_is none reads kept most f = still_goes e (record e { inbox = i; next = next }) H (λ d _. absurd (true_not_false (sym d ∙ reads))) refl refl refl kept refl (λ taken b k. record {
   given = k.given ++ waiting_requests next;
   out_is = k.out_is;
   holds = behind_more e.inbox i (waiting_requests next) f b k.given k.holds;
@@ -373,13 +438,15 @@ fetched_goes e i next H open_is none reads kept most f = still_goes e (record e 
   handed_is = k.handed_is;
   stage_is = subst (λ (z : Stage). IsAtStage z (IsDone (record e { inbox = i; next = next }) H) (intake_of (record e { inbox = i; next = next }) H b (k.given ++ waiting_requests next))) (sym open_is) (stage_at Stage.Open e H b k.given open_is k.stage_is);
   halted_is = open_unhalted e H open_is k.halted_is;
+  closes_is = k.closes_is;
+  closing_is = k.closing_is;
   told_is = k.told_is;
 })
 
 -- the reader of values went on, and gave none
 pub kept_goes : (e : Client) (i : InboxState) (H : History) → e.stage ≡ Stage.Open → KeepsReader e.inbox i → i.values.most ≡ e.inbox.values.most
     → ((b : List ℕ) (rs : List Request) → Holds e.inbox b rs → Holds i b rs) → Goes e (record e { inbox = i }) H H false
-kept_goes e i H open_is kept most f = still_goes e (record e { inbox = i }) H (untaken e (record e { inbox = i }) refl refl) refl refl kept refl (λ taken b k. record {
+kept_goes e i H open_is kept most f = still_goes e (record e { inbox = i }) H (untaken e (record e { inbox = i }) refl refl) refl refl refl kept refl (λ taken b k. record {
   given = k.given;
   out_is = k.out_is;
   holds = behind_kept e.inbox i f b k.given k.holds;
@@ -389,6 +456,8 @@ kept_goes e i H open_is kept most f = still_goes e (record e { inbox = i }) H (u
   handed_is = k.handed_is;
   stage_is = subst (λ (z : Stage). IsAtStage z (IsDone (record e { inbox = i }) H) (intake_of (record e { inbox = i }) H b k.given)) (sym open_is) (stage_at Stage.Open e H b k.given open_is k.stage_is);
   halted_is = open_unhalted e H open_is k.halted_is;
+  closes_is = k.closes_is;
+  closing_is = k.closing_is;
   told_is = k.told_is;
 })
 
@@ -418,6 +487,7 @@ read_goes e i H moved told open_is reads whole empty input same = record {
   writes = writes-none e.outbox e.outbox (refl, refl);
   conn = refl;
   drained = refl;
+  behind = refl;
   unread = λ d. absurd (true_not_false (sym d ∙ reads));
   untaken = λ _ _. record { accepted = refl; next = refl };
   adds = refl;
@@ -434,6 +504,8 @@ read_goes e i H moved told open_is reads whole empty input same = record {
     handed_is = k.handed_is;
     stage_is = subst (λ (z : Stage). IsAtStage z (IsDone (record e { inbox = i }) H) (intake_of (record e { inbox = i }) H (b ++ i.fresh) k.given)) (sym open_is) (stage_at Stage.Open e H b k.given open_is k.stage_is);
     halted_is = open_unhalted e H open_is k.halted_is;
+    closes_is = k.closes_is;
+    closing_is = k.closing_is;
     told_is = k.told_is;
   });
 }
@@ -441,7 +513,7 @@ read_goes e i H moved told open_is reads whole empty input same = record {
 -- no byte is read any more
 pub over_goes : (e : Client) (H : History) → e.stage ≡ Stage.Open → e.next ≢ Some Request'.Broken → (e.is_drained ≡ false → e.next ≡ None) → (e.is_drained ≡ false → HasGivenAll e.inbox) → IsOver e.is_drained e.inbox
     → Goes e (record e { stage = Stage.AtEnd; is_halted = e.is_drained }) H H false
-over_goes e H open_is unbroken none all over = still_goes e (record e { stage = Stage.AtEnd; is_halted = e.is_drained }) H (untaken e (record e { stage = Stage.AtEnd; is_halted = e.is_drained }) refl refl) refl refl (refl, refl, refl) refl (λ taken b k. record {
+over_goes e H open_is unbroken none all over = still_goes e (record e { stage = Stage.AtEnd; is_halted = e.is_drained }) H (untaken e (record e { stage = Stage.AtEnd; is_halted = e.is_drained }) refl refl) refl refl refl (refl, refl, refl) refl (λ taken b k. record {
   given = k.given;
   out_is = k.out_is;
   holds = k.holds;
@@ -450,7 +522,9 @@ over_goes e H open_is unbroken none all over = still_goes e (record e { stage = 
   accepted_is = k.accepted_is;
   handed_is = k.handed_is;
   stage_is = (stage_at Stage.Open e H b k.given open_is k.stage_is, record { end = over; all = λ f. behind_all e.inbox b k.given k.most_is (all f) k.holds; none_waits = none });
-  halted_is = λ h. record { drained = h; stage = λ o. absurd cc; unbroken = unbroken; goes_on = stage_at Stage.Open e H b k.given open_is k.stage_is };
+  halted_is = λ h. record { drained = inl h; stage = λ o. absurd cc; unbroken = unbroken; goes_on = stage_at Stage.Open e H b k.given open_is k.stage_is };
+  closes_is = k.closes_is;
+  closing_is = λ h. open_unhalted e H open_is k.halted_is (k.closing_is h);
   told_is = rw open_is at k.told_is;
 })
 
@@ -477,7 +551,9 @@ drained_carries e H taken b k = record {
   handed_is = k.handed_is;
   stage_is = stage_drained e.stage (IsDone e H) (IsDone (record e { is_drained = true }) H) (intake_of e H b k.given)
       (λ d. record { all_written = d.all_written; all_handed = d.all_handed; closed = d.closed }) k.stage_is;
-  halted_is = λ h. let x = k.halted_is h in record { drained = refl; stage = x.stage; unbroken = x.unbroken; goes_on = x.goes_on };
+  halted_is = λ h. let x = k.halted_is h in record { drained = inl refl; stage = x.stage; unbroken = x.unbroken; goes_on = x.goes_on };
+  closes_is = k.closes_is;
+  closing_is = k.closing_is;
   told_is = k.told_is;
 }
 
@@ -509,14 +585,16 @@ module _ (e : Client) (H later : History) (others : connection_steps e.conn late
         handed_is = k.handed_is ∙ sym same.same_handed;
         stage_is = subst (λ (z : List Request). IsAtStage e.stage (IsDone e (later ++ H)) (record { asked = z; is_halted = e.is_halted; inbox = e.inbox; next = e.next; bytes = b; given = k.given })) (sym asks) (stage_beside e.stage b k.given k.stage_is);
         halted_is = λ h. let x = k.halted_is h in record { drained = x.drained; stage = x.stage; unbroken = x.unbroken; goes_on = subst (λ (z : List Request). NoneFinishes z) (sym asks) x.goes_on };
+        closes_is = subst (λ (z : List Request). ClosesAt e.is_closing e.behind z) (sym asks) k.closes_is;
+        closing_is = k.closing_is;
         told_is = subst (λ (z : Bool). IsToldAt e.stage z (is_closed e.conn (later ++ H))) (sym same.same_finishing) (subst (λ (z : Bool). IsToldAt e.stage (is_finishing e.conn H) z) (sym same.same_closed) k.told_is);
       }
 
 -- THE BEGINNING
 
-pub opened_carries : (conn pass : ℕ) (i : InboxState) (o : OutboxState) (next : Option Request') (H : History) (b : List ℕ) → connection_steps conn H ≡ [] → o.pending ≡ [] → i.values.most ≡ MAX_CLIENT_MEMBERS → HoldsBehind i b (waiting_requests next)
-    → Carries (record { conn = conn; inbox = i; outbox = o; next = next; accepted = 0; handed = 0; stage = Stage.Open; is_drained = false; is_halted = false }) (step_by pass Event.Opened (Answer.Opened conn) ∷ H) [] b
-opened_carries conn pass i o next H b none empty most holds =
+pub opened_carries : (conn pass : ℕ) (behind : Behind) (i : InboxState) (o : OutboxState) (next : Option Request') (H : History) (b : List ℕ) → connection_steps conn H ≡ [] → o.pending ≡ [] → i.values.most ≡ MAX_CLIENT_MEMBERS → HoldsBehind i b (waiting_requests next)
+    → Carries (record { conn = conn; inbox = i; outbox = o; next = next; accepted = 0; handed = 0; stage = Stage.Open; is_drained = false; is_halted = false; behind = behind; is_closing = false }) (step_by pass Event.Opened (Answer.Opened conn) ∷ H) [] b
+opened_carries conn pass behind i o next H b none empty most holds =
     let same = history.SameOfConnection-connection_steps conn H in
     let no_text : transcript conn H ≡ [] = sym same.same_transcript ∙ ap (transcript conn) none in
     let no_request : requests conn H ≡ [] = sym same.same_requests ∙ ap (requests conn) none in
@@ -530,5 +608,7 @@ opened_carries conn pass i o next H b none empty most holds =
       handed_is = ap (handed_count conn) (sym none) ∙ same.same_handed;
       stage_is = rw no_request refl;
       halted_is = λ h. absurd cc;
+      closes_is = rw no_request refl;
+      closing_is = λ h. absurd cc;
       told_is = sym same.same_closed ∙ ap (is_closed conn) none;
     }

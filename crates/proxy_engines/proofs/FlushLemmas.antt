@@ -36,6 +36,7 @@ module _ (e : Client) (o : OutboxState) (H : History) (same : o.pending ≡ e.ou
     writes = record { held = Appends-kept e.outbox.held o.held held; taken = taken_is ∙ sym (append-nil e.outbox.taken) };
     conn = refl;
     drained = refl;
+    behind = refl;
     unread = λ _. record { none = refl; kept = (refl, refl, refl) };
     untaken = λ _ _. record { accepted = refl; next = refl };
     adds = refl;
@@ -52,6 +53,8 @@ module _ (e : Client) (o : OutboxState) (H : History) (same : o.pending ≡ e.ou
       handed_is = k.handed_is;
       stage_is = stage_with e.stage (IsDone e H) (IsDone (record e { outbox = o }) H) (intake_of e H b k.given) done_still k.stage_is;
       halted_is = λ h. let x = k.halted_is h in record { drained = x.drained; stage = x.stage; unbroken = x.unbroken; goes_on = x.goes_on };
+      closes_is = k.closes_is;
+      closing_is = k.closing_is;
       told_is = k.told_is;
     });
   }

@@ -403,3 +403,10 @@ starts_same a = ([], sym (append-nil a))
 
 pub starts_then : {X : Type 0} (a b c : List X) → StartsWith b a → StartsWith c b → StartsWith c a
 starts_then a b c p q = (p.0 ++ q.0, q.1 ∙ ap (λ z. z ++ q.0) p.1 ∙ append_assoc a p.0 q.0)
+
+-- the value that was found is answered, and none waits
+pub found_answered : (l : HostOutboxState) (k : LinkState) (v : Value) (pass : ℕ) (H : History) (a : Answer) (m : ℕ) → k.next ≡ None
+    → GoesBy l (record l { moments = drop 1 l.moments }) (Some (record k { next = Some v })) (Some k) H (step_by pass (Event.Answered l.host l.epoch v m) a ∷ H) m true
+found_answered l k v pass H a m none =
+    subst (λ (n : Option Value). GoesBy l (record l { moments = drop 1 l.moments }) (Some (record k { next = Some v })) (Some (record k { next = n })) H (step_by pass (Event.Answered l.host l.epoch v m) a ∷ H) m true)
+    (sym none) (answered_on l (record k { next = Some v }) v pass H a m refl)

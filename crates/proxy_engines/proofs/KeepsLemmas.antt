@@ -1,5 +1,5 @@
 -- What an engine keeps of its socket's logs, over any number of calls.
-use Rattle.std.proofs.Common.{◌≡◌, ◌≢◌, ◌∙◌, ◌⊎◌, false, ℕ, Bool, List, [], ◌∷◌, ◌++◌, Option, Some, None, ap, append_assoc, append-nil, eq-eqb, inl, inr, refl, sym, true}
+use Rattle.std.proofs.Common.{◌≡◌, ◌≢◌, ◌∙◌, ◌⊎◌, false, ℕ, Bool, List, [], ◌∷◌, ◌++◌, Option, Some, None, ap, append_assoc, append-nil, eq-eqb, inl, inr, refl, subst, sym, true}
 use Rattle.std.specs.Prelude.{Result}
 use Rattle.std.proofs.lemmas.List.Elements.{filter-append}
 use Rattle.proxy_history.specs.History.{History, Step}
@@ -9,7 +9,8 @@ use Rattle.proxy_history.specs.declared.answer.Answer.{Answer}
 use Rattle.proxy_history.specs.declared.event.Kind.{Kind}
 use Rattle.journal_core.specs.Journal.{step_by}
 use Rattle.proxy_engines.specs.Client.{Client, Carries, Goes}
-use Rattle.proxy_engines.specs.Socket.{Past, IsLeft, IsRest}
+use Rattle.close_behind.specs.CloseBehind.{Behind}
+use Rattle.proxy_engines.specs.Socket.{Past, IsLeft, IsRest, WentOn}
 use Rattle.proxy_engines.specs.Ends.{RestState}
 use Rattle.proxy_engines.specs.Host.{HostEnds, HostMove, HostOutboxState, LinkState, CarriesHost, GoesOn}
 use Rattle.proxy_engines.specs.HostStep.{HostCall, Records, RestsHost, StepsHost, WorksHost, behind, ends_of, move_of, up_to}
@@ -74,7 +75,7 @@ KeepsSocket-passes e passed H =
 
 -- a socket that an engine leaves is between two connections
 leaves : (pasts : List Past) (e : Client) (H : History) (rest : RestState) (begun : Logs)
-    → ((taken told : List ℕ) → Carries e H taken told → IsLeft e.conn H taken told rest)
+    → ((taken told : List ℕ) → Carries e H taken told → IsLeft e.conn e.behind H taken told rest)
     → CarriesSocketLogs pasts e H begun → IsBetween (record { conn = e.conn; steps = H } ∷ pasts) rest begun (client_logs e)
 leaves pasts e H rest begun left s =
     let is_left = left s.so.gave (s.so.left ++ s.so.got) s.so.carries in
@@ -86,7 +87,7 @@ leaves pasts e H rest begun left s =
       so = record {
         left = is_left.rest;
         rest_is = is_left.stands;
-        went_on = record {
+        went_on = subst (λ (z : Behind). WentOn z (record { conn = e.conn; steps = H } ∷ pasts) s.taken s.told is_left.rest) (sym is_left.behind_is) (record {
           took = s.so.took;
           came = s.so.came;
           left = s.so.left;
@@ -98,15 +99,15 @@ leaves pasts e H rest begun left s =
           taken_is = s.so.taken_is;
           bytes_are = s.so.bytes_are;
           rest_is = refl;
-        };
+        });
       };
     }
 
 -- an engine that is opened between two connections goes on from there
 opens : (pasts : List Past) (e : Client) (H : History) (rest : RestState) (begun : Logs)
-    → ((bytes : List ℕ) → IsRest rest bytes → Carries e H [] bytes)
+    → e.behind ≡ rest.behind → ((bytes : List ℕ) → IsRest rest bytes → Carries e H [] bytes)
     → IsBetween pasts rest begun (client_logs e) → CarriesSocketLogs pasts e H begun
-opens pasts e H rest begun opened s = record {
+opens pasts e H rest begun same opened s = record {
   taken = s.taken;
   told = s.told;
   taken_is = s.taken_is;
@@ -117,7 +118,7 @@ opens pasts e H rest begun opened s = record {
     left = s.so.left;
     gave = [];
     got = [];
-    before = s.so.went_on;
+    before = subst (λ (z : Behind). WentOn z pasts s.taken s.told s.so.left) (sym same) s.so.went_on;
     carries = rw (append-nil s.so.left) (opened s.so.left s.so.rest_is);
     taken_is = sym (append-nil s.taken);
     bytes_are = sym (append-nil s.told);

@@ -66,7 +66,7 @@ sockets_carry_logs = record {
   stays = λ ps e H later begun others s. so_then begun (client_logs e) (CarriesOn ps e H) (CarriesOn ps e (later ++ H)) (λ t b k. socket_stays ps e H later t b others k) s;
   goes_over = λ ps old new H H' r begun over s.
       subst (λ (z : Logs). Since begun z (CarriesOn (record { conn = old.conn; steps = H } ∷ ps) new H')) (sym over.logs)
-      (so_then begun (client_logs old) (CarriesOn ps old H) (CarriesOn (record { conn = old.conn; steps = H } ∷ ps) new H') (λ t b k. socket_goes_over ps old new H H' r t b over.leaves over.opens k) s);
+      (so_then begun (client_logs old) (CarriesOn ps old H) (CarriesOn (record { conn = old.conn; steps = H } ∷ ps) new H') (λ t b k. socket_goes_over ps old new H H' r t b over.leaves over.behind_is over.opens k) s);
   serves = λ ps e H begun s. record {
     told = s.told;
     told_is = s.told_is;

@@ -10,15 +10,17 @@ use Rattle.resp_core.proofs.CallerLemmas as resp_core
 use Rattle.splitter.specs.Request.{Request, read}
 use Rattle.splitter.specs.Requests.{AreRequests, finishes, up_to_last}
 use Rattle.splitter.proofs.CallerLemmas as splits
+use Rattle.close_behind.specs.CloseBehind.{Behind, NoneCloses, closes_behind, up_to_closing}
+use Rattle.close_behind.proofs.CallerLemmas.{none_closes-append, up_to_closing-first}
 use Rattle.proxy_history.specs.History.{History}
 use Rattle.proxy_history.specs.Output.{transcript}
 use Rattle.proxy_devices.specs.Device.{Counts}
 use Rattle.proxy_engines.specs.Ends.{RestState, Holds, IsCut, end_with}
-use Rattle.proxy_engines.specs.Client.{Client, Carries, IsFinished, IsAtStage, IsDone, MayGoOn, NoneFinishes, asked_requests, waiting_requests, intake_of}
-use Rattle.proxy_engines.specs.Socket.{IsLeft, Past, WentOn, CarriesOn, asked_before, said_before, SocketBegins, SocketMoves, SocketStays, SocketGoesOver, SocketAsksInOrder, SocketAnswersInOrder, SocketEndsWhole}
+use Rattle.proxy_engines.specs.Client.{Client, Carries, ClosesAt, IsFinished, IsAtStage, IsDone, LastCloses, MayGoOn, NoneFinishes, asked_requests, waiting_requests, intake_of}
+use Rattle.proxy_engines.specs.Socket.{IsLeft, Past, WentOn, CarriesOn, asked_before, said_before, SocketBegins, SocketMoves, SocketStays, SocketGoesOver, SocketAsksInOrder, SocketAnswersInOrder, SocketCloses, SocketClosesAnswered, SocketEndsWhole}
 use Rattle.proxy_engines.specs.declared.client.Stage.{Stage}
 use Rattle.proxy_engines.proofs.ClientMoves.{carries_beside}
-use Rattle.proxy_engines.proofs.ClientLemmas.{accepted_first, ended_is_whole}
+use Rattle.proxy_engines.proofs.ClientLemmas.{accepted_first, ended_is_answered, ended_is_whole}
 
 -- WHAT AN ENGINE LEAVES
 
@@ -46,7 +48,7 @@ ask_apart (t ∷ ts) (r ∷ asks) others is =
     let first : read t ≡ r = cc in
     record { front = t ∷ x.front; back = x.back; are = ap (λ z. t ∷ z) x.are; front_asks = ap (λ z. z ∷ map read x.front) first ∙ ap (λ z. r ∷ z) x.front_asks; back_asks = x.back_asks }
 
-module _ (e : Client) (H : History) (taken b : List ℕ) (k : Carries e H taken b) (may : MayGoOn e) (r : RestState) (most : r.values.most ≡ e.inbox.values.most) (next : r.next ≡ e.next) where
+module _ (e : Client) (H : History) (taken b : List ℕ) (k : Carries e H taken b) (may : MayGoOn e) (r : RestState) (most : r.values.most ≡ e.inbox.values.most) (next : r.next ≡ e.next) (behind : r.behind ≡ e.behind) where
   -- the texts of all values that were given, and what is left of the bytes behind them
   record Given : Type 0 where
     values : List Tree
@@ -69,7 +71,7 @@ module _ (e : Client) (H : History) (taken b : List ℕ) (k : Carries e H taken 
         holds = cut.holds;
       }
 
-  pub is_left : ((x : List ℕ) (rs : List Request) → Holds e.inbox x rs → IsCut e.inbox.values.most x rs r) → IsLeft e.conn H taken b r
+  pub is_left : ((x : List ℕ) (rs : List Request) → Holds e.inbox x rs → IsCut e.inbox.values.most x rs r) → IsLeft e.conn e.behind H taken b r
   is_left f =
       let halted = k.halted_is may.1 in
       let all = given f in
@@ -82,6 +84,8 @@ module _ (e : Client) (H : History) (taken b : List ℕ) (k : Carries e H taken 
         asked_are = sym asks.front_asks;
         splits = front;
         goes_on = halted.goes_on;
+        stays = rw may.2 at k.closes_is;
+        behind_is = behind;
         stands = record {
           most_is = most ∙ k.most_is;
           holds = λ left told counts. record {
@@ -101,29 +105,32 @@ module _ (e : Client) (H : History) (taken b : List ℕ) (k : Carries e H taken 
 -- CONNECTIONS BEFORE
 
 -- what went before, in one
-record Before (ps : List Past) (taken b rest : List ℕ) : Type 0 where
+record Before (behind : Behind) (ps : List Past) (taken b rest : List ℕ) : Type 0 where
   asked : List Tree
   splits : Splits MAX_CLIENT_MEMBERS b asked rest
   asked_are : asked_before ps ≡ map read asked
   goes_on : NoneFinishes (asked_before ps)
+  stays : NoneCloses behind (asked_before ps)
   taken_is : taken ≡ said_before ps
 
-before : (ps : List Past) (taken b rest : List ℕ) → WentOn ps taken b rest → Before ps taken b rest
-before [] taken b rest (none_taken, none_came, none_left) = record {
+before : (behind : Behind) (ps : List Past) (taken b rest : List ℕ) → WentOn behind ps taken b rest → Before behind ps taken b rest
+before behind [] taken b rest (none_taken, none_came, none_left) = record {
   asked = [];
   splits = none_came ∙ sym none_left;
   asked_are = refl;
   goes_on = refl;
+  stays = refl;
   taken_is = none_taken;
 }
-before (p ∷ ps) taken b rest w =
-    let x = before ps w.took w.came w.left w.before in
+before behind (p ∷ ps) taken b rest w =
+    let x = before behind ps w.took w.came w.left w.before in
     let l = w.is_left in
     record {
       asked = x.asked ++ l.asked;
       splits = rw (w.bytes_are, w.rest_is) (resp_core.splits_then MAX_CLIENT_MEMBERS w.came w.left w.got l.rest x.asked l.asked x.splits l.splits);
       asked_are = ap (λ z. z ++ asked_requests p.conn p.steps) x.asked_are ∙ ap (λ z. map read x.asked ++ z) l.asked_are ∙ sym (map-append read x.asked l.asked);
       goes_on = splits.none_finishes-append (asked_before ps) (asked_requests p.conn p.steps) x.goes_on l.goes_on;
+      stays = none_closes-append behind (asked_before ps) (asked_requests p.conn p.steps) x.stays l.stays;
       taken_is = w.taken_is ∙ ap (λ z. z ++ w.gave) x.taken_is ∙ ap (λ z. said_before ps ++ z) l.taken_is;
     }
 
@@ -149,7 +156,7 @@ socket_moves ps old new H H' moved taken b g k = record {
   left = k.left;
   gave = k.gave ++ g.gave;
   got = k.got ++ g.got;
-  before = k.before;
+  before = subst (λ (z : Behind). WentOn z ps k.took k.came k.left) (sym g.behind) k.before;
   carries = subst (λ (z : List ℕ). Carries new H' (k.gave ++ g.gave) z) (append_assoc k.left k.got g.got) (g.carries k.gave (k.left ++ k.got) k.carries);
   taken_is = ap (λ z. z ++ g.gave) k.taken_is ∙ append_assoc k.took k.gave g.gave;
   bytes_are = ap (λ z. z ++ g.got) k.bytes_are ∙ append_assoc k.came k.got g.got;
@@ -169,7 +176,7 @@ socket_stays ps e H later taken b others k = record {
 }
 
 pub socket_goes_over : SocketGoesOver
-socket_goes_over ps e next H H' r taken b leaves opens k =
+socket_goes_over ps e next H H' r taken b leaves same opens k =
     let l = leaves k.gave (k.left ++ k.got) k.carries in
     record {
       took = taken;
@@ -177,7 +184,7 @@ socket_goes_over ps e next H H' r taken b leaves opens k =
       left = l.rest;
       gave = [];
       got = [];
-      before = record {
+      before = subst (λ (z : Behind). WentOn z (record { conn = e.conn; steps = H } ∷ ps) taken b l.rest) (sym (same ∙ l.behind_is)) (record {
         took = k.took;
         came = k.came;
         left = k.left;
@@ -189,7 +196,7 @@ socket_goes_over ps e next H H' r taken b leaves opens k =
         taken_is = k.taken_is;
         bytes_are = k.bytes_are;
         rest_is = refl;
-      };
+      });
       carries = rw (append-nil l.rest) (opens l.rest l.stands);
       taken_is = sym (append-nil taken);
       bytes_are = sym (append-nil b);
@@ -207,8 +214,8 @@ up_to_last-behind (x ∷ xs) ys h =
     ]
 
 module _ (ps : List Past) (e : Client) (H : History) (taken b : List ℕ) (k : CarriesOn ps e H taken b) (rs : List Request) (are : AreRequests b rs) where
-  past : Before ps k.took k.came k.left
-  past = before ps k.took k.came k.left k.before
+  past : Before e.behind ps k.took k.came k.left
+  past = before e.behind ps k.took k.came k.left k.before
 
   -- what the rest and the bytes behind it ask
   own : (qs : List Request) × AreRequests (k.left ++ k.got) qs
@@ -230,7 +237,7 @@ socket_asks_in_order ps e H taken b k rs are = asks_first ps e H taken b k rs ar
 
 pub socket_answers_in_order : SocketAnswersInOrder
 socket_answers_in_order ps e H taken b k =
-    let x = before ps k.took k.came k.left k.before in
+    let x = before e.behind ps k.took k.came k.left k.before in
     ap (λ z. z ++ e.outbox.pending) k.taken_is ∙ append_assoc k.took k.gave e.outbox.pending ∙ ap (λ z. k.took ++ z) k.carries.out_is ∙ ap (λ z. z ++ transcript e.conn H) x.taken_is
 
 pub socket_ends_whole : SocketEndsWhole
@@ -242,4 +249,32 @@ socket_ends_whole ps e H taken b k is unhalted rs are =
       accepted_are = ap (λ z. asked_before ps ++ z) whole.accepted_are ∙ sym (up_to_last-behind (asked_before ps) qs.0 x.goes_on) ∙ ap up_to_last (sym (all_are ps e H taken b k rs are));
       all_handed = whole.all_handed;
       taken_is = k.taken_is ∙ ap (λ z. z ++ k.gave) x.taken_is ∙ ap (λ z. said_before ps ++ z) whole.taken_is;
+    }
+
+-- WHERE A REFUSED COMMAND CLOSES
+
+-- requests of which none closes, and then some up to the first that does
+up_to_closing-behind : (behind : Behind) (xs : List Request) (l : List Request) (more : List Request) → NoneCloses behind xs → LastCloses behind l → up_to_closing behind ((xs ++ l) ++ more) ≡ xs ++ l
+up_to_closing-behind behind xs l more none last =
+    let whole : xs ++ l ≡ (xs ++ last.front) ++ last.last ∷ [] = ap (λ z. xs ++ z) last.are ∙ sym (append_assoc xs last.front (last.last ∷ [])) in
+    ap (λ z. up_to_closing behind (z ++ more)) whole
+    ∙ up_to_closing-first behind (xs ++ last.front) last.last more (none_closes-append behind xs last.front none last.goes_on) last.closes
+    ∙ sym whole
+
+pub socket_closes : SocketCloses
+socket_closes ps e H taken b k rs are =
+    let x = past ps e H taken b k rs are in
+    let more = asks_first ps e H taken b k rs are in
+    record {
+      closing = λ yes. sym (ap (up_to_closing e.behind) more.1 ∙ up_to_closing-behind e.behind (asked_before ps) (asked_requests e.conn H) more.0 x.stays (rw yes at k.carries.closes_is));
+      goes_on = λ no. none_closes-append e.behind (asked_before ps) (asked_requests e.conn H) x.stays (rw no at k.carries.closes_is);
+    }
+
+pub socket_closes_answered : SocketClosesAnswered
+socket_closes_answered ps e H taken b k is =
+    let x = before e.behind ps k.took k.came k.left k.before in
+    let whole = ended_is_answered e H k.gave (k.left ++ k.got) k.carries is in
+    record {
+      all_handed = whole.0;
+      taken_is = k.taken_is ∙ ap (λ z. z ++ k.gave) x.taken_is ∙ ap (λ z. said_before ps ++ z) whole.1;
     }

@@ -7,6 +7,7 @@ use Rattle.limits.specs.declared.messages.TheConstants.{MAX_CLIENT_MEMBERS}
 use Rattle.splitter.specs.Request.{Request, request_of}
 use Rattle.splitter.specs.Requests.{finishes}
 use Rattle.splitter.specs.declared.request.Request.{Request as Request'}
+use Rattle.close_behind.specs.CloseBehind.{Behind, NoneCloses, closes_behind}
 use Rattle.proxy_history.specs.History.{History, Step, accepted_count, handed_count, requests, is_closed, is_finishing}
 use Rattle.proxy_history.specs.declared.event.Event.{Event}
 use Rattle.proxy_history.specs.declared.refusal.Refusal.{Refusal}
@@ -22,7 +23,8 @@ use Rattle.engine_work.specs.EngineError.{IsTurnRefused}
 use Rattle.engine_work.specs.declared.error.EngineError.{EngineError}
 
 -- its connection, its two ends, the request that waits to be accepted, how many commands were accepted and how many replies
--- handed out, how far the connection has come, whether nothing more is to be taken in, and whether reading stopped for that
+-- handed out, how far the connection has come, whether nothing more is to be taken in, and whether reading stopped for that or
+-- behind a refused command; and behind which refused commands it does, and whether it has
 pub record Client : Type 0 where
   pub conn : ℕ
   pub inbox : InboxState
@@ -33,6 +35,8 @@ pub record Client : Type 0 where
   pub stage : Stage
   pub is_drained : Bool
   pub is_halted : Bool
+  pub behind : Behind
+  pub is_closing : Bool
 
 -- while requests are taken, its reader has refused nothing but what waits
 abbrev pub IsWhole : Stage → Option Request' → Option RespError → Type 0
@@ -72,6 +76,19 @@ pub record LastFinishes (rs : List Request) : Type 0 where
   pub are : rs ≡ front ++ last ∷ []
   pub goes_on : NoneFinishes front
   pub finishes : finishes last ≡ true
+
+-- the last of these requests closes the connection, and no other does
+pub record LastCloses (behind : Behind) (rs : List Request) : Type 0 where
+  pub front : List Request
+  pub last : Request
+  pub are : rs ≡ front ++ last ∷ []
+  pub goes_on : NoneCloses behind front
+  pub closes : closes_behind behind last ≡ true
+
+-- of these requests the last alone closes the connection where that is so, and else none does
+abbrev pub ClosesAt : Bool → Behind → List Request → Type 0
+ClosesAt false behind rs = NoneCloses behind rs
+ClosesAt true behind rs = LastCloses behind rs
 
 -- what a connection has taken in: the requests that it asked, whether reading was halted, what was read and which request of
 -- it waits, the bytes that the reader gave, and the requests given of them
@@ -156,20 +173,22 @@ pub record IsDone (engine : Client) (steps : History) : Type 0 where
   pub all_handed : engine.accepted ≡ engine.handed
   pub closed : is_closed engine.conn steps ≡ true
 
--- reading stopped for a drain: what waits is a value, if anything does, and none that was accepted finishes the connection
+-- reading stopped for a drain, or behind a refused command: what waits is a value, if anything does, and none that was accepted
+-- finishes the connection
 pub record IsHalted (engine : Client) (steps : History) : Type 0 where
-  pub drained : engine.is_drained ≡ true
+  pub drained : (engine.is_drained ≡ true) ⊎ (engine.is_closing ≡ true)
   pub stage : engine.stage ≢ Stage.Open
   pub unbroken : engine.next ≢ Some Request'.Broken
   pub goes_on : NoneFinishes (asked_requests engine.conn steps)
 
--- closed after a drain, with all answered and written, and neither had its input ended nor did a request finish it
+-- closed after a drain, with all answered and written, and neither had its input ended nor did a request finish or close it
 abbrev pub MayGoOn : Client → Type 0
-MayGoOn engine = (engine.stage ≡ Stage.Closed false) × (engine.is_halted ≡ true)
+MayGoOn engine = (engine.stage ≡ Stage.Closed false) × (engine.is_halted ≡ true) × (engine.is_closing ≡ false)
 
 -- What the client's writer took and what is pending is what was handed out; the requests accepted, and the one that waits, are
--- those that were given; and the connection finishes and was closed as its stage says. The writer took the bytes `taken`, the
--- reader gave `bytes`, and the engine's caller made these steps.
+-- those that were given; and the connection finishes and was closed as its stage says. Where reading stopped behind a refused
+-- command, the last request accepted closes the connection, as no other does. The writer took the bytes `taken`, the reader gave
+-- `bytes`, and the engine's caller made these steps.
 pub record Carries (engine : Client) (steps : History) (taken bytes : List ℕ) : Type 0 where
   pub given : List Request
   pub out_is : taken ++ engine.outbox.pending ≡ transcript engine.conn steps
@@ -180,6 +199,8 @@ pub record Carries (engine : Client) (steps : History) (taken bytes : List ℕ) 
   pub handed_is : engine.handed ≡ handed_count engine.conn steps
   pub stage_is : IsAtStage engine.stage (IsDone engine steps) (intake_of engine steps bytes given)
   pub halted_is : engine.is_halted ≡ true → IsHalted engine steps
+  pub closes_is : ClosesAt engine.is_closing engine.behind (asked_requests engine.conn steps)
+  pub closing_is : engine.is_closing ≡ true → engine.is_halted ≡ true
   pub told_is : IsToldAt engine.stage (is_finishing engine.conn steps) (is_closed engine.conn steps)
 
 -- Nothing can be handed out: all that was accepted has been, or the next reply hasn't come.
@@ -230,6 +251,7 @@ pub record Goes (old new : Client) (before after : History) (moved : Bool) : Typ
   pub writes : Writes old.outbox new.outbox gave
   pub conn : new.conn ≡ old.conn
   pub drained : new.is_drained ≡ old.is_drained
+  pub behind : new.behind ≡ old.behind
   pub unread : old.is_drained ≡ true → IsUnread old.inbox new.inbox got
   pub untaken : old.is_drained ≡ true → old.next ≢ Some Request'.Broken → IsUntaken old new
   pub adds : after ≡ steps ++ before

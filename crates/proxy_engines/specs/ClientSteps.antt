@@ -15,6 +15,7 @@ use Rattle.proxy_engines.specs.Ends.{HasGivenAll, KeepsReader}
 use Rattle.proxy_engines.specs.Client.{AwaitsBytes, AwaitsReplies, Client, Goes, HandsNothing, HasNext, HasNoFault, HasSameCounts, IsHeldBack, IsIdle, IsLive, TakesNothing}
 use Rattle.proxy_engines.specs.declared.client.Progress.{Progress}
 use Rattle.proxy_engines.specs.declared.client.Stage.{Stage}
+use Rattle.close_behind.specs.CloseBehind.{Behind}
 use Rattle.engine_work.specs.EngineError.{IsTurnRefused}
 use Rattle.engine_work.specs.declared.error.EngineError.{EngineError}
 
@@ -131,8 +132,8 @@ pub record TellsStep (cause : Refusal → Event → List Step → Type 0) (seen_
   pub idle : IfOk result (λ p. p ≡ Progress.Idle → IsIdle cause old new seen_before seen_after)
 
 -- A connection was opened, by one turn of this pass, over a reader and a writer in these states. No step was made of it before;
--- requests are taken, and the engine is not drained.
-pub record OpensClient (pass : ℕ) (before after : History) (reader : ReadState) (writer : WriteState) (new : Client) : Type 0 where
+-- requests are taken, the engine is not drained, and it closes the connection behind these refused commands.
+pub record OpensClient (pass : ℕ) (before after : History) (reader : ReadState) (writer : WriteState) (behind : Behind) (new : Client) : Type 0 where
   pub opened : after ≡ step_by pass Event.Opened (Answer.Opened new.conn) ∷ before
   pub fresh : connection_steps new.conn before ≡ []
   pub left_is : new.inbox.left ≡ reader.remaining
@@ -143,3 +144,4 @@ pub record OpensClient (pass : ℕ) (before after : History) (reader : ReadState
   pub counts_are : (new.inbox.counts ≡ reader.counts) × (new.outbox.counts ≡ writer.counts)
   pub stage : new.stage ≡ Stage.Open
   pub reads : new.is_drained ≡ false
+  pub behind_is : new.behind ≡ behind

@@ -10,6 +10,7 @@ use Rattle.limits.specs.declared.messages.TheConstants.{MAX_CLIENT_MEMBERS}
 use Rattle.splitter.specs.Request.{Request, read, broken, request_of}
 use Rattle.splitter.specs.declared.request.Request.{Request as Request'}
 use Rattle.splitter.specs.Requests.{end_of}
+use Rattle.close_behind.specs.CloseBehind.{Behind}
 use Rattle.proxy_devices.specs.Device.{Counts, HasFailed, Passed, WasIdle, is_moved}
 use Rattle.proxy_devices.specs.declared.tally.IoOutcome.{IoOutcome}
 use Rattle.proxy_engines.specs.Moves.{has_moved}
@@ -99,9 +100,11 @@ pub record HoldsBehind (inbox : InboxState) (came : List ℕ) (asked : List Requ
   pub holds : Holds inbox own given
   pub requests : asked ≡ map read first ++ given
 
--- what was read and not asked: the request that waits, the bytes that came last, and the reader of values
+-- what was read and not asked: the request that waits, the bytes that came last, and the reader of values; and behind which
+-- refused commands the connection is closed
 pub record RestState : Type 0 where
   pub next : Option Request'
+  pub behind : Behind
   pub fresh : List ℕ
   pub values : ReaderState
 

@@ -8,15 +8,18 @@ use Rattle.proxy_devices.specs.Device.{HasRisen}
 use Rattle.proxy_engines.specs.Host.{HostEnds, HostMove, HostOutboxState, LinkState, GoesOn, FailsHost}
 use Rattle.proxy_engines.specs.OneTurn.{HasHeld}
 use Rattle.proxy_engines.specs.Faults.{IsLate, IsLateOn, IsCauseOf, IsOfNoDevice}
+use Rattle.proxy_engines.specs.LinkFaults.{Names}
 use Rattle.proxy_engines.specs.declared.client.Progress.{Progress}
+use Rattle.proxy_engines.specs.declared.link_fault.LinkFault.{LinkFault}
 use Rattle.engine_work.specs.EngineError.{IsTurnRefused}
 use Rattle.engine_work.specs.declared.error.EngineError.{EngineError}
 
--- a host's engine, and the fault that is still to be recorded
+-- a host's engine, the fault that is still to be recorded, and the last fault, recorded or not
 pub record HostState : Type 0 where
   pub outbox : HostOutboxState
   pub link : Option LinkState
   pub fault : Option Kind
+  pub last_fault : Option LinkFault
 
 -- the ends of an engine
 abbrev pub ends_of : HostState → HostEnds
@@ -67,10 +70,24 @@ IsCausedOn unasked move kind error = IsCausedBetween
     ((kind ≡ Kind.Late) × (error ≡ None) × IsLate move.new.outbox move.moment)
     move.old.link move.new.link
 
--- a fault is recorded
+-- an engine that its caller gives up: that is its fault, where none is still to be recorded
+abbrev pub given_up : HostState → HostState
+given_up engine = unless engine.fault
+  where
+    unless : Option Kind → HostState
+    unless None = record engine { last_fault = Some LinkFault.GivenUp }
+    unless (Some kind) = engine
+
+-- an engine for which no link could be made: that is its fault
+abbrev pub refused_link : HostState → HostState
+refused_link engine = record engine { fault = Some Kind.Refused; last_fault = Some LinkFault.Refused }
+
+-- a fault is recorded, which was the last one, and still is
 pub record Records (call : HostCall) (kind : Kind) : Type 0 where
   pub fails : FailsHost (move_of call) kind
   pub fault : call.new.fault ≡ None
+  pub named : Names kind call.old.link call.old.last_fault
+  pub last : call.new.last_fault ≡ call.old.last_fault
 
 -- what a step answers that recorded a fault
 abbrev pub answer_of : Option EngineError → Result Progress EngineError

@@ -38,7 +38,7 @@ pub record KeepsLink (begun : Logs) (old new : HostEnds) (before after : History
 -- not asked.
 pub record LeavesRest (pasts : List Past) (rest : RestState) (taken told : List ℕ) : Type 0 where
   pub left : List ℕ
-  pub went_on : WentOn pasts taken told left
+  pub went_on : WentOn rest.behind pasts taken told left
   pub rest_is : IsRest rest left
 
 -- A socket between two connections: those before are closed, its writer took all that was handed out to them, and this rest holds
@@ -58,10 +58,10 @@ pub record ClientsKeepSockets : Type 0 where
   pub drains : (e : Client) (H : History) → KeepsSocket e (record e { is_drained = true }) H H
   pub passes : (e : Client) (passed : Passed) (H : History) → KeepsSocket e (record e { outbox = record e.outbox { passed = passed } }) H H
   pub leaves : (pasts : List Past) (e : Client) (H : History) (rest : RestState) (begun : Logs)
-      → ((taken told : List ℕ) → Carries e H taken told → IsLeft e.conn H taken told rest)
+      → ((taken told : List ℕ) → Carries e H taken told → IsLeft e.conn e.behind H taken told rest)
       → CarriesSocketLogs pasts e H begun → IsBetween (record { conn = e.conn; steps = H } ∷ pasts) rest begun (client_logs e)
   pub opens : (pasts : List Past) (e : Client) (H : History) (rest : RestState) (begun : Logs)
-      → ((bytes : List ℕ) → IsRest rest bytes → Carries e H [] bytes)
+      → e.behind ≡ rest.behind → ((bytes : List ℕ) → IsRest rest bytes → Carries e H [] bytes)
       → IsBetween pasts rest begun (client_logs e) → CarriesSocketLogs pasts e H begun
 
 -- A host's engine keeps its link over nothing, over what keeps it twice, and where a fault is recorded. An engine to which a link was attached keeps it from that link's logs on.

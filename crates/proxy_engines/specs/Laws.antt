@@ -1,11 +1,12 @@
 -- What follows from what an engine carries.
-use Rattle.std.specs.Prelude.{◌≡◌, ◌≢◌, ◌⊎◌, ℕ, false, List, [], ◌++◌, Option}
+use Rattle.std.specs.Prelude.{◌≡◌, ◌≢◌, ◌⊎◌, ℕ, true, false, List, [], ◌++◌, Option}
 use Rattle.splitter.specs.Request.{Request}
 use Rattle.splitter.specs.Requests.{AreRequests, up_to_last}
 use Rattle.proxy_history.specs.History.{History, accepted_count, handed_count}
 use Rattle.proxy_history.specs.Output.{transcript}
 use Rattle.proxy_history.specs.OwnSteps.{connection_steps, host_steps}
 use Rattle.std.specs.Io.KnownBytes.{IsAtEnd}
+use Rattle.close_behind.specs.CloseBehind.{NoneCloses, up_to_closing}
 use Rattle.proxy_engines.specs.Client.{Client, Carries, LastFinishes, asked_requests}
 use Rattle.proxy_engines.specs.Host.{HostOutboxState, LinkState, CarriesHost}
 use Rattle.proxy_engines.specs.declared.client.Stage.{Stage}
@@ -31,6 +32,21 @@ EndedIsWhole = (e : Client) (H : History) (taken b : List ℕ) → Carries e H t
 abbrev pub EndedIsOver : Type 0
 EndedIsOver = (e : Client) (H : History) (taken b : List ℕ) → Carries e H taken b → e.stage ≡ Stage.Closed false → e.is_halted ≡ false
     → IsAtEnd e.inbox.left ⊎ LastFinishes (asked_requests e.conn H)
+
+-- Where a client's last request closes its connection, it has accepted the first requests of all bytes up to and with the first
+-- that does, and it takes no further one; and else it has accepted none that does.
+pub record IsCutBehind (engine : Client) (steps : History) (requests : List Request) : Type 0 where
+  pub closing : engine.is_closing ≡ true → (asked_requests engine.conn steps ≡ up_to_closing engine.behind requests) × (engine.stage ≢ Stage.Open)
+  pub goes_on : engine.is_closing ≡ false → NoneCloses engine.behind (asked_requests engine.conn steps)
+
+abbrev pub RefusedClose : Type 0
+RefusedClose = (e : Client) (H : History) (taken b : List ℕ) → Carries e H taken b
+    → (rs : List Request) → AreRequests b rs → IsCutBehind e H rs
+
+-- A client that ended, for whatever reason but a fault, has handed out all that was accepted, and the writer took it.
+abbrev pub EndedIsAnswered : Type 0
+EndedIsAnswered = (e : Client) (H : History) (taken b : List ℕ) → Carries e H taken b → e.stage ≡ Stage.Closed false
+    → (handed_count e.conn H ≡ accepted_count e.conn H) × (taken ≡ transcript e.conn H)
 
 -- Steps of others leave what an engine carries as it is.
 abbrev pub OthersLeaveClients : Type 0

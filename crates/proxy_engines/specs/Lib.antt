@@ -8,6 +8,7 @@ pub mod Socket
 pub mod Host
 pub mod Faults
 pub mod LinkSteps
+pub mod LinkFaults
 pub mod HostStep
 pub mod HostTurns
 pub mod Laws

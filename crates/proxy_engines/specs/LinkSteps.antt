@@ -1,17 +1,25 @@
 -- What the parts of a step on a link come to.
-use Rattle.std.specs.Prelude.{◌≡◌, ◌≢◌, ◌⊎◌, ℕ, false, None, Result, IfOk, IfErr, OnErr}
+use Rattle.std.specs.Prelude.{◌≡◌, ◌≢◌, ◌⊎◌, ℕ, false, None, Some, Result, IfOk, IfErr, OnErr}
 use Rattle.proxy_devices.specs.Device.{HasRisen, WasIdle}
 use Rattle.proxy_engines.specs.Ends.{HasGivenAll, KeepsReader}
 use Rattle.proxy_engines.specs.Host.{HostOutboxState, LinkState}
 use Rattle.proxy_engines.specs.Faults.{HasNoFaultOn, HasRead, IfFault, IsCauseOf, IsLate, IsLateOn, IsOfDevice, LinkMove, is_fault}
 use Rattle.engine_work.specs.declared.error.EngineError.{EngineError}
 use Rattle.proxy_engines.specs.declared.link.NextValue.{NextValue}
+use Rattle.proxy_engines.specs.declared.link.NextValue.TheVariants as found
+use Rattle.resp_core.specs.declared.value.Value.{Value}
 use Rattle.proxy_engines.specs.declared.link.Outcome.{Outcome}
 
--- A value waits for its turn, a byte is refused, or all values that came were given, as was found.
+-- the link with the value that was found as the one that waits for its turn
+abbrev pub with_found : LinkState → NextValue → LinkState
+with_found link (found.Value v) = record link { next = Some v }
+with_found link found.Idle = link
+with_found link found.Garbled = link
+
+-- A value was found and no other waits, a byte is refused, or all values that came were given.
 pub record FindsNext (link : LinkState) (found : NextValue) : Type 0 where
   pub idle : found ≡ NextValue.Idle → (link.next ≡ None) × HasGivenAll link.inbox
-  pub value : found ≡ NextValue.Value → (link.next ≢ None) × (link.inbox.values.refusal ≡ None)
+  pub value : (v : Value) → found ≡ NextValue.Value v → (link.next ≡ None) × (link.inbox.values.refusal ≡ None)
   pub garbled : found ≡ NextValue.Garbled → link.inbox.values.refusal ≢ None
 
 -- The next value was looked for: what was found is told, or there was no memory, and nothing is refused. Both devices are as they

@@ -81,7 +81,8 @@ pub record IsSocketServed (pasts : List Past) (engine : Client) (steps : History
 
 -- An engine leaves this rest, and the next one that is opened with it goes on from it, over the same logs.
 pub record HandsOver (old new : Client) (before after : History) (rest : RestState) : Type 0 where
-  pub leaves : (taken bytes : List ℕ) → Carries old before taken bytes → IsLeft old.conn before taken bytes rest
+  pub leaves : (taken bytes : List ℕ) → Carries old before taken bytes → IsLeft old.conn old.behind before taken bytes rest
+  pub behind_is : new.behind ≡ rest.behind
   pub opens : (bytes : List ℕ) → IsRest rest bytes → Carries new after [] bytes
   pub logs : client_logs new ≡ client_logs old
 

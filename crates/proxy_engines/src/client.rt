@@ -15,6 +15,7 @@ ghost use Rattle.proxy_engines.specs.Moves.{AsTold, told_by_step, told_by_turn};
 use crate::inbox::{Inbox, Rest};
 use crate::one_turn::{arrive, make_turn, open, told_as};
 use crate::outbox::Outbox;
+use close_behind::CloseBehind;
 use engine_work::EngineError;
 use proxy_core::{Answer, CoreTurns, Event, Request};
 use proxy_devices::{IoOutcome, ReadTally, WriteTally};
@@ -57,6 +58,18 @@ pub enum Stage {
     },
 }
 
+/// What a connection is opened with.
+#[derive(Drop)]
+pub struct ClientEnds<R: ReadTally, W: WriteTally> {
+    /// The client's bytes.
+    pub reader: R,
+    /// Where replies go.
+    pub writer: W,
+    /// Behind these refused commands nothing more is taken in: what was accepted is answered and written, and the
+    /// connection is closed.
+    pub behind: CloseBehind,
+}
+
 /// A client's engine: turns input into requests, and writes the replies that are handed out.
 pub struct ClientEngine<R: ReadTally, W: WriteTally> {
     conn: u64,
@@ -68,8 +81,11 @@ pub struct ClientEngine<R: ReadTally, W: WriteTally> {
     stage: Stage,
     // Nothing more may be read or accepted.
     is_drained: bool,
-    // Reading stopped for that, before the input ended or a request finished the connection.
+    // Reading stopped for that or behind a refused command, before the input ended or a request finished the connection.
     is_halted: bool,
+    behind: CloseBehind,
+    // The request that was accepted last closes the connection.
+    is_closing: bool,
 }
 
 impl<R: ReadTally + Drop, W: WriteTally + Drop> Drop for ClientEngine<R, W> {
@@ -84,6 +100,8 @@ impl<R: ReadTally + Drop, W: WriteTally + Drop> Drop for ClientEngine<R, W> {
             stage: _,
             is_drained: _,
             is_halted: _,
+            behind: _,
+            is_closing: _,
         } = self;
     }
 }
@@ -109,6 +127,8 @@ impl<R: ReadTally, W: WriteTally> Model for ClientEngine<R, W> {
       stage = e.stage;
       is_drained = e.is_drained;
       is_halted = e.is_halted;
+      behind = e.behind;
+      is_closing = e.is_closing;
     } };
 
     ghost invariant = { λ e. IsWhole e.stage e.next e.inbox.values.refusal
@@ -235,11 +255,14 @@ impl<R: ReadTally, W: WriteTally> ClientEngine<R, W> {
         let Some(request) = self.next.take() else {
             return Ok(Progress::Idle);
         };
+        let closes = self.behind.closes(&request);
         match arrive(rt, turns, self.conn, request) {
             Ok(is_last) => {
                 self.accepted = self.accepted.saturating_add(1);
                 if is_last {
                     self.stage = Stage::Finishing;
+                } else if closes {
+                    self.stop_behind();
                 }
                 Ok(Progress::Moved)
             }
@@ -248,6 +271,17 @@ impl<R: ReadTally, W: WriteTally> ClientEngine<R, W> {
                 told_as(denied, Progress::Idle)
             }
         }
+    }
+
+    // Behind a refused command nothing more is taken in.
+    fn stop_behind(&mut self)
+        requires { self.old.inbox.values.refusal ≡ None }
+        ensures { self.new
+            ≡ record self.old { stage = Stage.AtEnd; is_halted = true; is_closing = true } }
+    {
+        self.stage = Stage::AtEnd;
+        self.is_halted = true;
+        self.is_closing = true;
     }
 
     // False: none has come whole.
@@ -506,11 +540,11 @@ impl<R: ReadTally, W: WriteTally> ClientEngine<R, W> {
     }
 
     /// Whether the connection was closed after a drain, with everything answered and written, and its socket can go on:
-    /// its input hasn't ended, and no request has finished it.
+    /// its input hasn't ended, and no request has finished or closed it.
     pub fn may_go_on(&self) -> bool
         ensures { (result ≡ true) ↔ MayGoOn self.now }
     {
-        self.is_halted && self.stage == Stage::Closed { is_cut: false }
+        self.is_halted && !self.is_closing && self.stage == Stage::Closed { is_cut: false }
     }
 
     /// Flushes the writer. Where that fails the connection goes on.
@@ -597,14 +631,13 @@ impl<R: ReadTally + Drop, W: WriteTally + Drop> ClientEngine<R, W> {
         rt: &Rt,
         alloc: Global,
         turns: &mut T,
-        reader: R,
-        writer: W,
+        ends: ClientEnds<R, W>,
     ) -> Result<ClientEngine<R, W>, EngineError>
         ensures turns { KeepsTurns (T.facts turns.old) (T.facts turns.new) }
         ensures opened { IfOk result (λ e. OpensClient (T.facts turns.old).pass
             (own_history (T.facts turns.old)) (own_history (T.facts turns.new))
-            (reader_state R.remaining R.told R.counts reader)
-            (writer_state W.contents W.taken W.passed W.counts writer) e) }
+            (reader_state R.remaining R.told R.counts ends.reader)
+            (writer_state W.contents W.taken W.passed W.counts ends.writer) ends.behind e) }
         ensures carries { IfOk result (λ e. Carries e (own_history (T.facts turns.new)) [] []) }
         ensures err { IfErr result
             (λ e. (own_history (T.facts turns.new) ≡ own_history (T.facts turns.old))
@@ -612,11 +645,17 @@ impl<R: ReadTally + Drop, W: WriteTally + Drop> ClientEngine<R, W> {
         ensures due { IfErr result
             (IsDueError (T.cause (T.facts turns.old).setting) (T.facts turns.new).seen) }
     {
+        let ClientEnds {
+            reader,
+            writer,
+            behind,
+        } = ends;
         let inbox = match Inbox::new(alloc, reader, Limits::CLIENT) {
             Ok(inbox) => inbox,
             Err(reader) => {
                 drop(reader);
                 drop(writer);
+                drop(behind);
                 return Err(EngineError::NoMemory);
             }
         };
@@ -631,10 +670,13 @@ impl<R: ReadTally + Drop, W: WriteTally + Drop> ClientEngine<R, W> {
                 stage: Stage::Open,
                 is_drained: false,
                 is_halted: false,
+                behind,
+                is_closing: false,
             }),
             Err(denied) => {
                 drop(inbox);
                 drop(writer);
+                drop(behind);
                 Err(EngineError::TurnRefused(denied))
             }
         }
@@ -655,7 +697,7 @@ impl<R: ReadTally + Drop, W: WriteTally + Drop> ClientEngine<R, W> {
         ensures opened { IfOk result (λ e. OpensClient (T.facts turns.old).pass
             (own_history (T.facts turns.old)) (own_history (T.facts turns.new))
             (reader_state R.remaining R.told R.counts reader)
-            (writer_state W.contents W.taken W.passed W.counts writer) e) }
+            (writer_state W.contents W.taken W.passed W.counts writer) rest.behind e) }
         ensures carries { IfOk result (λ e. (b : List ℕ) → IsRest rest b → Carries e
             (own_history (T.facts turns.new)) [] b) }
         ensures err { IfErr result
@@ -667,7 +709,7 @@ impl<R: ReadTally + Drop, W: WriteTally + Drop> ClientEngine<R, W> {
     {
         match open(rt, turns) {
             Ok(conn) => {
-                let (inbox, next) = Inbox::with(reader, rest);
+                let (inbox, next, behind) = Inbox::with(reader, rest);
                 Ok(ClientEngine {
                     conn,
                     inbox,
@@ -678,6 +720,8 @@ impl<R: ReadTally + Drop, W: WriteTally + Drop> ClientEngine<R, W> {
                     stage: Stage::Open,
                     is_drained: false,
                     is_halted: false,
+                    behind,
+                    is_closing: false,
                 })
             }
             Err(denied) => Err((EngineError::TurnRefused(denied), reader, writer, rest)),
@@ -695,7 +739,7 @@ impl<R: ReadTally + Drop, W: WriteTally + Drop> ClientEngine<R, W> {
             × (W.taken o.1 ≡ self.outbox.taken)) }
         ensures passed { IfSome result (λ o. W.passed o.1 ≡ self.outbox.passed) }
         ensures left { IfSome result (λ o. (H : History) (taken b : List ℕ) → Carries self H taken b
-            → IsLeft self.conn H taken b o.2) }
+            → IsLeft self.conn self.behind H taken b o.2) }
     {
         if !self.may_go_on() {
             drop(self);
@@ -711,8 +755,10 @@ impl<R: ReadTally + Drop, W: WriteTally + Drop> ClientEngine<R, W> {
             stage: _,
             is_drained: _,
             is_halted: _,
+            behind,
+            is_closing: _,
         } = self;
-        let (reader, rest) = inbox.into_rest(next);
+        let (reader, rest) = inbox.into_rest(next, behind);
         Some((reader, outbox.into_writer(), rest))
     }
 
@@ -732,6 +778,8 @@ impl<R: ReadTally + Drop, W: WriteTally + Drop> ClientEngine<R, W> {
             stage: _,
             is_drained: _,
             is_halted: _,
+            behind: _,
+            is_closing: _,
         } = self;
         drop(inbox);
         drop(next);

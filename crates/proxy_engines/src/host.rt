@@ -11,11 +11,13 @@ ghost use Rattle.proxy_engines.specs.Faults.{HasNoFaultOn, IsLate, IsDueErrorOn,
 ghost use Rattle.proxy_engines.specs.Ends.{HasGivenAll};
 ghost use Rattle.proxy_engines.specs.Host.{LinkState, CarriesHost};
 ghost use Rattle.proxy_engines.specs.HostTurns.{MakesStep, RecordsFault, RestsSending, MovesEnds, MovesHost, SendsHost, TakesOne, TellsHost, call_of};
-ghost use Rattle.proxy_engines.specs.HostStep.{TellsFault, after_fault, answer_of, ends_of};
+ghost use Rattle.proxy_engines.specs.HostStep.{TellsFault, after_fault, answer_of, ends_of, given_up, refused_link};
+ghost use Rattle.proxy_engines.specs.LinkFaults.{Names};
 
 use crate::client::Progress;
 use crate::host_outbox::HostOutbox;
 use crate::link::{Link, Outcome};
+use crate::link_fault::LinkFault;
 use engine_work::EngineError;
 use proxy_core::{CoreTurns, Kind};
 use proxy_devices::{ReadTally, WriteTally};
@@ -29,6 +31,7 @@ pub struct HostEngine<R: ReadTally, W: WriteTally> {
     outbox: HostOutbox,
     link: Option<Link<R, W>>,
     fault: Option<Kind>,
+    last_fault: Option<LinkFault>,
 }
 
 impl<R: ReadTally + Drop, W: WriteTally + Drop> Drop for HostEngine<R, W> {
@@ -38,6 +41,7 @@ impl<R: ReadTally + Drop, W: WriteTally + Drop> Drop for HostEngine<R, W> {
             outbox: _,
             link: _,
             fault: _,
+            last_fault: _,
         } = self;
     }
 }
@@ -55,6 +59,7 @@ fn after_fault(told: Result<Progress, EngineError>) -> Result<Progress, EngineEr
 
 impl<R: ReadTally, W: WriteTally> Model for HostEngine<R, W> {
     ghost use Rattle.proxy_engines.specs.HostStep.{HostState, IsWhole};
+    ghost use Rattle.proxy_engines.specs.LinkFaults.{NamesUnrecorded};
 
     ghost Value = { HostState };
 
@@ -64,9 +69,15 @@ impl<R: ReadTally, W: WriteTally> Model for HostEngine<R, W> {
 
     ghost coded = { Prim.hlevel (codes, tree_code, value.the_row.coded) };
 
-    ghost view = { λ e. record { outbox = e.outbox; link = e.link; fault = e.fault } };
+    ghost view = { λ e. record {
+      outbox = e.outbox;
+      link = e.link;
+      fault = e.fault;
+      last_fault = e.last_fault;
+    } };
 
-    ghost invariant = { λ e. IsWhole e.fault e.link };
+    ghost invariant = { λ e. IsWhole e.fault e.link
+        × NamesUnrecorded e.fault e.link e.last_fault };
 }
 
 impl<R: ReadTally, W: WriteTally> HostEngine<R, W> {
@@ -82,6 +93,7 @@ impl<R: ReadTally, W: WriteTally> HostEngine<R, W> {
           is_astray = false;
         } }
         ensures link { (result.link ≡ None) × (result.fault ≡ None) }
+        ensures last_fault { result.last_fault ≡ None }
         ensures carries { (H : History) → host_steps host H ≡ []
             → CarriesHost result.outbox result.link H [] [] }
     {
@@ -90,6 +102,7 @@ impl<R: ReadTally, W: WriteTally> HostEngine<R, W> {
             outbox: HostOutbox::new(alloc, host, reply_ms),
             link: None,
             fault: None,
+            last_fault: None,
         }
     }
 }
@@ -111,6 +124,13 @@ impl<R: ReadTally + Drop, W: WriteTally + Drop> HostEngine<R, W> {
         ensures { IsTrue result ↔ self.now.outbox.moments ≢ [] }
     {
         self.outbox.awaits_reply()
+    }
+
+    /// Why the last link ended, or none was made; `None` before the first fault.
+    pub fn last_fault(&self) -> Option<LinkFault>
+        ensures { result ≡ self.now.last_fault }
+    {
+        self.last_fault
     }
 
     /// The link's reader, if there is a link.
@@ -183,6 +203,7 @@ impl<R: ReadTally + Drop, W: WriteTally + Drop> HostEngine<R, W> {
         kind: Kind,
         moment: u64,
     ) -> Result<(), EngineError>
+        requires named { Names kind self.old.link self.old.last_fault }
         ensures records { RecordsFault T.cause (T.facts turns.old) (T.facts turns.new)
             self.old self.new kind moment result }
     {
@@ -229,8 +250,10 @@ impl<R: ReadTally + Drop, W: WriteTally + Drop> HostEngine<R, W> {
     ) -> Result<(), EngineError>
         requires none { self.old.link ≡ None }
         ensures records { RecordsFault T.cause (T.facts turns.old) (T.facts turns.new)
-            self.old self.new Kind.Refused moment result }
+            (refused_link self.old) self.new Kind.Refused moment result }
     {
+        self.fault = Some(Kind::Refused);
+        self.last_fault = Some(LinkFault::Refused);
         self.record_fault(rt, turns, Kind::Refused, moment)
     }
 
@@ -245,9 +268,12 @@ impl<R: ReadTally + Drop, W: WriteTally + Drop> HostEngine<R, W> {
         moment: u64,
     ) -> Result<(), EngineError>
         ensures records { RecordsFault T.cause (T.facts turns.old) (T.facts turns.new)
-            self.old self.new (unwrap_or self.old.fault Kind.Dropped) moment result }
+            (given_up self.old) self.new (unwrap_or self.old.fault Kind.Dropped) moment result }
     {
-        let kind = self.fault.unwrap_or(Kind::Dropped);
+        let Some(kind) = self.fault else {
+            self.last_fault = Some(LinkFault::GivenUp);
+            return self.record_fault(rt, turns, Kind::Dropped, moment);
+        };
         self.record_fault(rt, turns, kind, moment)
     }
 
@@ -259,6 +285,7 @@ impl<R: ReadTally + Drop, W: WriteTally + Drop> HostEngine<R, W> {
         error: Option<EngineError>,
         moment: u64,
     ) -> Result<Progress, EngineError>
+        requires named { Names kind self.old.link self.old.last_fault }
         ensures turns { KeepsTurns (T.facts turns.old) (T.facts turns.new) }
         ensures tells { TellsFault (call_of T.cause (T.facts turns.old) (T.facts turns.new)
             self.old self.new moment) kind error result }
@@ -290,6 +317,7 @@ impl<R: ReadTally + Drop, W: WriteTally + Drop> HostEngine<R, W> {
             Outcome::Idle => Ok(Progress::Idle),
             Outcome::Moved => Ok(Progress::Moved),
             Outcome::Fault { kind, error } => {
+                self.last_fault = Some(LinkFault::of(kind, link.passed_limit()));
                 self.fault = Some(kind);
                 self.tell_fault(rt, turns, kind, error, moment)
             }
@@ -330,6 +358,7 @@ impl<R: ReadTally + Drop, W: WriteTally + Drop> HostEngine<R, W> {
     {
         let taken = self.take_one(rt, turns, moment)?;
         if self.outbox.is_late(moment) {
+            self.last_fault = Some(LinkFault::Late);
             return self.tell_fault(rt, turns, Kind::Late, None, moment);
         }
         if !self.outbox.is_empty() {
@@ -378,6 +407,7 @@ impl<R: ReadTally + Drop, W: WriteTally + Drop> HostEngine<R, W> {
             Outcome::Idle => Ok(Progress::Idle),
             Outcome::Moved => Ok(Progress::Moved),
             Outcome::Fault { kind, error } => {
+                self.last_fault = Some(LinkFault::of(kind, link.passed_limit()));
                 self.fault = Some(kind);
                 self.tell_fault(rt, turns, kind, error, moment)
             }

@@ -3,8 +3,11 @@ ghost use Rattle.std.specs.Borrow.{sem};
 ghost use Rattle.proxy_devices.specs.Device.{reader_state};
 ghost use Rattle.resp_core.specs.Command.{command_of};
 ghost use Rattle.resp_core.specs.declared.error.RespError.{RespError};
+ghost use Rattle.proxy_engines.specs.LinkFaults.{TellsLimit};
 ghost use Rattle.splitter.specs.Request.{Request as Asked, IsNotSpelled, read, request_of};
 
+use crate::link_fault::{LastPiece, PassedLimit, passed_limit};
+use close_behind::CloseBehind;
 use limits::READ_SIZE;
 use proxy_devices::{IoOutcome, ReadTally};
 use resp_core::{Limits, Reader, RespError, SpelledCommand};
@@ -35,10 +38,12 @@ fn fitting_size(length: usize, last: usize) -> usize
     }
 }
 
-/// A client's unused input: the waiting request, an unfinished command, and bytes not looked at.
+/// A client's unused input: the waiting request, an unfinished command, and bytes not looked at. It goes with what closes the
+/// connection.
 #[derive(Drop)]
 pub struct Rest {
     next: Option<Request>,
+    behind: CloseBehind,
     alloc: Global,
     buffer: Vec<u8>,
     fresh: usize,
@@ -62,6 +67,7 @@ impl Model for Rest {
 
     ghost view = { λ r. record {
       next = r.next;
+      behind = r.behind;
       fresh = take r.fresh r.buffer.items;
       values = r.values;
     } };
@@ -81,6 +87,10 @@ pub(crate) struct Inbox<R: ReadTally> {
     // The bytes of the last read that brought any, or half of the number before if that is more.
     last: usize,
     values: Reader,
+    // The length of the piece that was fed last, and the offset behind it.
+    piece: usize,
+    fed: u64,
+    passed: Option<PassedLimit>,
     // Whether the reader of values has returned all complete values of its bytes.
     has_given_all: bool,
 }
@@ -88,6 +98,7 @@ pub(crate) struct Inbox<R: ReadTally> {
 impl<R: ReadTally> Model for Inbox<R> {
     ghost use Rattle.std.specs.Prelude.{◌≡◌, ◌≤◌, true, take, length};
     ghost use Rattle.proxy_engines.specs.Ends.{InboxState, HasNothingToGive};
+    ghost use Rattle.proxy_engines.specs.LinkFaults.{TellsLimit};
     ghost use Rattle.limits.specs.declared.reads.TheConstants.{READ_SIZE};
     ghost use Rattle.proxy_engines.specs.declared.inbox.TheConstants.{MIN_READ_SIZE};
 
@@ -108,7 +119,8 @@ impl<R: ReadTally> Model for Inbox<R> {
 
     ghost invariant = { λ i. (MIN_READ_SIZE ≤ length i.buffer.items)
         × (length i.buffer.items ≤ READ_SIZE) × (i.fresh ≤ length i.buffer.items)
-        × (i.has_given_all ≡ true → HasNothingToGive i.values) };
+        × (i.has_given_all ≡ true → HasNothingToGive i.values)
+        × TellsLimit i.values.refusal i.passed };
 }
 
 impl<R: ReadTally> Inbox<R> {
@@ -132,28 +144,34 @@ impl<R: ReadTally> Inbox<R> {
                 fresh: 0,
                 last: 0,
                 values: Reader::new(alloc, limits),
+                piece: 0,
+                fed: 0,
+                passed: None,
                 has_given_all: false,
             }),
             Err(_) => Err(input),
         }
     }
 
-    pub(crate) fn with(input: R, rest: Rest) -> (Inbox<R>, Option<Request>)
+    pub(crate) fn with(input: R, rest: Rest) -> (Inbox<R>, Option<Request>, CloseBehind)
         ensures left { result.0.left ≡ R.remaining input }
         ensures told { (result.0.told ≡ R.told input) × (result.0.counts ≡ R.counts input) }
         ensures fresh { result.0.fresh ≡ rest.fresh }
         ensures values { result.0.values ≡ rest.values }
         ensures whole { result.0.values.refusal ≡ None }
         ensures next { result.1 ≡ rest.next }
+        ensures behind { result.2 ≡ rest.behind }
     {
         let Rest {
             next,
+            behind,
             alloc,
             buffer,
             fresh,
             last,
             values,
         } = rest;
+        let fed = values.held();
         let inbox = Inbox {
             alloc,
             input,
@@ -161,12 +179,15 @@ impl<R: ReadTally> Inbox<R> {
             fresh,
             last,
             values,
+            piece: 0,
+            fed,
+            passed: None,
             has_given_all: false,
         };
-        (inbox, next)
+        (inbox, next, behind)
     }
 
-    pub(crate) fn into_rest(self, next: Option<Request>) -> (R, Rest)
+    pub(crate) fn into_rest(self, next: Option<Request>, behind: CloseBehind) -> (R, Rest)
         requires { self.values.refusal ≡ None }
         ensures left { R.remaining result.0 ≡ self.left }
         ensures told { (R.told result.0 ≡ self.told) × (R.counts result.0 ≡ self.counts) }
@@ -174,6 +195,7 @@ impl<R: ReadTally> Inbox<R> {
             → IsCut self.values.most b rs result.1 }
         ensures most { result.1.values.most ≡ self.values.most }
         ensures next { result.1.next ≡ next }
+        ensures behind { result.1.behind ≡ behind }
     {
         let Inbox {
             alloc,
@@ -187,6 +209,7 @@ impl<R: ReadTally> Inbox<R> {
         values.begin_behind();
         let rest = Rest {
             next,
+            behind,
             alloc,
             buffer,
             fresh,
@@ -210,6 +233,13 @@ impl<R: ReadTally> Inbox<R> {
             (reader_state R.remaining R.told R.counts result.now) }
     {
         &mut self.input
+    }
+
+    /// That of a refused value, if it is too long.
+    pub(crate) fn passed_limit(&self) -> Option<PassedLimit>
+        ensures { TellsLimit self.now.values.refusal result }
+    {
+        self.passed
     }
 
     // Doubles the buffer if the last read filled it, and halves it if an eighth was enough, as memory allows.
@@ -256,6 +286,8 @@ impl<R: ReadTally> Inbox<R> {
             if self.values.feed(&self.buffer[..self.fresh]).is_err() {
                 return Err(AllocError);
             }
+            self.piece = self.fresh;
+            self.fed = self.fed.saturating_add(self.fresh as u64);
             self.fresh = 0;
         }
         Ok(())
@@ -318,6 +350,7 @@ impl<R: ReadTally> Inbox<R> {
         }
         self.feed()?;
         self.has_given_all = false;
+        let begin = self.fed.saturating_sub(self.values.held());
         match self.values.next_value() {
             Ok(Some(value)) => Ok(Some(Request::Read(value))),
             Ok(None) => {
@@ -328,6 +361,12 @@ impl<R: ReadTally> Inbox<R> {
                 if is_memory(&error) {
                     return Err(AllocError);
                 }
+                let piece = LastPiece {
+                    end: self.fed,
+                    length: self.piece,
+                    bytes: &self.buffer,
+                };
+                self.passed = passed_limit(error, begin, piece);
                 Ok(Some(Request::Broken))
             }
         }

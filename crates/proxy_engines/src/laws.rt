@@ -1,9 +1,9 @@
 //! Laws, each the contract of a function that does nothing.
 ghost use Rattle.std.specs.Prelude.{◌≡◌};
-ghost use Rattle.proxy_engines.specs.Laws.{AcceptedAreFirst, ClientsLeaveOthers, EndedIsOver, EndedIsWhole, HostsLeaveOthers, OthersLeaveClients, OthersLeaveHosts};
+ghost use Rattle.proxy_engines.specs.Laws.{AcceptedAreFirst, ClientsLeaveOthers, EndedIsAnswered, EndedIsOver, EndedIsWhole, HostsLeaveOthers, OthersLeaveClients, OthersLeaveHosts, RefusedClose};
 ghost use Rattle.proxy_engines.specs.Keeps.{ClientsKeepSockets, HostsKeepLinks};
 ghost use Rattle.proxy_engines.specs.Logs.{ClientsCarryLogs, HostsCarryLogs, SocketsCarryLogs};
-ghost use Rattle.proxy_engines.specs.Socket.{SocketAnswersInOrder, SocketAsksInOrder, SocketBegins, SocketEndsWhole, SocketGoesOver, SocketMoves, SocketStays};
+ghost use Rattle.proxy_engines.specs.Socket.{SocketAnswersInOrder, SocketAsksInOrder, SocketBegins, SocketCloses, SocketClosesAnswered, SocketEndsWhole, SocketGoesOver, SocketMoves, SocketStays};
 
 use limits::READ_SIZE;
 
@@ -23,6 +23,16 @@ pub fn accepted_are_first()
 pub fn ended_is_whole()
     ensures whole { EndedIsWhole }
     ensures over { EndedIsOver }
+{}
+
+/// With names of refused commands, what a client's engine accepts are the first requests of its bytes, up to and with the
+/// first refused one of these names. It then takes no further one. All replies were handed out and written before it ended.
+/// The same holds over all connections of a socket.
+pub fn refused_close()
+    ensures closes { RefusedClose }
+    ensures answered { EndedIsAnswered }
+    ensures socket_closes { SocketCloses }
+    ensures socket_answered { SocketClosesAnswered }
 {}
 
 /// Other callers' steps leave the facts of a client's and a host's engine true.

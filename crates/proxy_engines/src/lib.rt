@@ -14,18 +14,21 @@ mod host_outbox;
 mod inbox;
 mod laws;
 mod link;
+mod link_fault;
 mod one_turn;
 mod outbox;
 
-pub use client::{ClientEngine, Progress, Stage};
+pub use client::{ClientEnds, ClientEngine, Progress, Stage};
 pub use client_work::ClientWork;
+pub use close_behind::CloseBehind;
 pub use engine_work::{Denied, EngineError, Work, run_all};
 pub use host::HostEngine;
 pub use inbox::Rest;
 pub use laws::{
     accepted_are_first, clients_carry_logs, ended_is_whole, engines_keep_logs,
-    engines_leave_others, hosts_carry_logs, others_leave_engines, reads_are_limited,
+    engines_leave_others, hosts_carry_logs, others_leave_engines, reads_are_limited, refused_close,
     sockets_carry_logs, sockets_go_on,
 };
 pub use limits::READ_SIZE;
+pub use link_fault::{LinkFault, PassedLimit};
 pub use proxy_devices::{Faulty, IoOutcome, ReadTally, Tallied, Tally, WriteTally};

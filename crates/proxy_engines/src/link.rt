@@ -9,14 +9,16 @@ ghost use Rattle.std.specs.Borrow.{sem};
 ghost use Rattle.proxy_devices.specs.Device.{WasIdle, HasRisen, reader_state, writer_state};
 ghost use Rattle.proxy_engines.specs.OneTurn.{HasHeld};
 ghost use Rattle.proxy_engines.specs.Ends.{HasGivenAll, KeepsReader};
-ghost use Rattle.proxy_engines.specs.LinkSteps.{AnswersAll, AnswersNext, AnswersValue, LooksForValue, ReadsOnLink, Receives, SendsOnLink, WorksOnLink, WritesOnLink};
+ghost use Rattle.proxy_engines.specs.LinkSteps.{AnswersAll, AnswersNext, AnswersValue, LooksForValue, ReadsOnLink, Receives, SendsOnLink, WorksOnLink, WritesOnLink, with_found};
 ghost use Rattle.proxy_engines.specs.HostTurns.{MovesEnds};
 ghost use Rattle.proxy_engines.specs.Host.{HostOutboxState, LinkState, GoesWithoutTurn, on_link};
+ghost use Rattle.proxy_engines.specs.LinkFaults.{TellsLimit};
 ghost use Rattle.proxy_engines.specs.Moves.{AsTold};
 ghost use Rattle.proxy_engines.specs.Faults.{either, is_fault, HasNoFaultOn, HasRead, IfFault, IsCauseOf, IsLate, IsOfDevice, IsUnaskedNow, IsLateOn, IsPlain, told_by_moves, told_by_outcome};
 
 use crate::host_outbox::HostOutbox;
 use crate::inbox::Inbox;
+use crate::link_fault::PassedLimit;
 use crate::one_turn::{give, told_as};
 use engine_work::EngineError;
 use proxy_core::{CoreTurns, Kind, Request};
@@ -65,9 +67,9 @@ impl Outcome {
     }
 }
 
-#[derive(Clone, Copy, Drop)]
+#[derive(Drop)]
 enum NextValue {
-    Value,
+    Value(Value),
     Idle,
     Garbled,
 }
@@ -154,6 +156,13 @@ impl<R: ReadTally, W: WriteTally> Link<R, W> {
         }
     }
 
+    /// That of a refused reply, if it is too long.
+    pub(crate) fn passed_limit(&self) -> Option<PassedLimit>
+        ensures { TellsLimit self.now.inbox.values.refusal result }
+    {
+        self.inbox.passed_limit()
+    }
+
     fn write(&mut self, outbox: &mut HostOutbox) -> Outcome
         requires some { outbox.old.pending ≢ [] }
         ensures goes { GoesWithoutTurn (on_link outbox.old self.old) (on_link outbox.new self.new)
@@ -170,21 +179,21 @@ impl<R: ReadTally, W: WriteTally> Link<R, W> {
         }
     }
 
+    // The value that is found isn't kept: it goes to its turn at once.
     fn next_value(&mut self) -> Result<NextValue, EngineError>
         requires whole { self.old.inbox.values.refusal ≡ None }
-        ensures goes { (outbox : HostOutboxState)
-            → GoesWithoutTurn (on_link outbox self.old) (on_link outbox self.new) (Some false) }
+        ensures goes { IfOk result (λ found. (outbox : HostOutboxState) → GoesWithoutTurn
+            (on_link outbox self.old) (on_link outbox (with_found self.new found)) (Some false)) }
+        ensures rests { OnErr result ((outbox : HostOutboxState)
+            → GoesWithoutTurn (on_link outbox self.old) (on_link outbox self.new) (Some false)) }
         ensures looks { LooksForValue (record { old = self.old; new = self.new }) result }
     {
-        if self.next.is_some() {
-            return Ok(NextValue::Value);
+        if let Some(value) = self.next.take() {
+            return Ok(NextValue::Value(value));
         }
         // A host's values are read as requests are, but for commands.
         match self.inbox.next_read() {
-            Ok(Some(Request::Read(value))) => {
-                drop(self.next.replace(value));
-                Ok(NextValue::Value)
-            }
+            Ok(Some(Request::Read(value))) => Ok(NextValue::Value(value)),
             Ok(Some(Request::Spelled(command))) => {
                 drop(command);
                 unreachable!()
@@ -195,25 +204,24 @@ impl<R: ReadTally, W: WriteTally> Link<R, W> {
         }
     }
 
+    // What came is a value and its moment.
     fn answer<Rt: Wait, T: CoreTurns>(
         &mut self,
+        came: (Value, u64),
         outbox: &mut HostOutbox,
         rt: &Rt,
         turns: &mut T,
-        moment: u64,
     ) -> Result<Outcome, EngineError>
-        requires waits { self.old.next ≢ None }
+        requires none { self.old.next ≡ None }
         ensures moves { MovesEnds T.cause (T.facts turns.old) (T.facts turns.new)
-            (on_link outbox.old self.old) (on_link outbox.new self.new) moment
-            (told_by_moves result) result }
+            (on_link outbox.old (record self.old { next = Some came.0 }))
+            (on_link outbox.new self.new) came.1 (told_by_moves result) result }
         ensures answers { AnswersValue
             (IsUnaskedNow (T.cause (T.facts turns.old).setting Refusal.Unasked)
-            (T.facts turns.new).seen moment outbox.new self.new)
+            (T.facts turns.new).seen came.1 outbox.new self.new)
             (record { old = self.old; new = self.new }) result }
     {
-        let Some(value) = self.next.take() else {
-            return Ok(Outcome::Moved);
-        };
+        let (value, moment) = came;
         match give(rt, turns, outbox.host(), outbox.epoch(), value, moment) {
             Ok(()) => {
                 outbox.forget_moment();
@@ -273,7 +281,7 @@ impl<R: ReadTally, W: WriteTally> Link<R, W> {
                 kind: Kind::Garbled,
                 error: None,
             }),
-            NextValue::Value => self.answer(outbox, rt, turns, moment),
+            NextValue::Value(value) => self.answer((value, moment), outbox, rt, turns),
         }
     }
 

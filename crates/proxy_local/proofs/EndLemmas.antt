@@ -24,7 +24,7 @@ unhalted_of true d drained reads = absurd (true_not_false (sym (drained refl) �
 unhalted_of false d drained reads = refl
 
 -- A client that ended with no drain, the bytes that it read, and the whole input.
-module _ (e : Client) (H : History) (taken b input : List ℕ) (k : Carries e H taken b) (is : e.stage ≡ Stage.Closed false) (reads : e.is_drained ≡ false) where
+module _ (e : Client) (H : History) (taken b input : List ℕ) (k : Carries e H taken b) (is : e.stage ≡ Stage.Closed false) (reads : e.is_drained ≡ false) (unnamed : e.behind ≡ record { all = false; names = [] }) where
   pub at_end : IsFinished (intake_of e H b k.given) × IsDone e H
   at_end = subst (λ (z : Stage). IsAtStage z (IsDone e H) (intake_of e H b k.given)) is k.stage_is
 
@@ -33,9 +33,9 @@ module _ (e : Client) (H : History) (taken b input : List ℕ) (k : Carries e H 
     where
       by : IsFinished (intake_of e H b k.given) → asked_requests e.conn H ≡ up_to_last rs
       by (inl stays) =
-          let none : more ≡ [] = rw left at (at_end_of e.is_halted e.is_drained e.inbox (λ h. (k.halted_is h).drained) reads stays.1.end) in
+          let none : more ≡ [] = rw left at (at_end_of e.is_halted e.is_drained e.inbox (engines.halted_drained e H taken b k unnamed) reads stays.1.end) in
           let same : input ≡ b = split ∙ rw none (append-nil b) in
-          (engines.ended_is_whole e H taken b k is (unhalted_of e.is_halted e.is_drained (λ h. (k.halted_is h).drained) reads) rs (subst (λ (z : List ℕ). AreRequests z rs) same are)).accepted_are
+          (engines.ended_is_whole e H taken b k is (unhalted_of e.is_halted e.is_drained (engines.halted_drained e H taken b k unnamed) reads) rs (subst (λ (z : List ℕ). AreRequests z rs) same are)).accepted_are
       by (inr last) =
           let others = engines.accepted_first_of e H taken b more k rs (subst (λ (z : List ℕ). AreRequests z rs) split are) in
           sym (ap up_to_last (others.1 ∙ ap (λ z. z ++ others.0) last.are) ∙ splits.up_to_last-first last.front last.last others.0 last.goes_on last.finishes ∙ sym last.are)

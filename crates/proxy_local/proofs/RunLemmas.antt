@@ -41,7 +41,7 @@ opened_first S pass c later H adds legal =
 
 -- A client that was opened first, and ended, leaves what is promised.
 module _ (S : Setting) (old new : Client) (pass : ℕ) (before H : History) (opened : before ≡ step_by pass Event.Opened (Answer.Opened old.conn) ∷ [])
-    (begins : Carries old before [] []) (reads : old.is_drained ≡ false) (goes : GoesBeside old new before H) (ended : new.stage ≡ Stage.Closed false) (legal : IsLegal S H) (of_stubs : IsOfStubs S) where
+    (begins : Carries old before [] []) (reads : old.is_drained ≡ false) (unnamed : old.behind ≡ record { all = false; names = [] }) (goes : GoesBeside old new before H) (ended : new.stage ≡ Stage.Closed false) (legal : IsLegal S H) (of_stubs : IsOfStubs S) where
   adds : H ≡ goes.later ++ step_by pass Event.Opened (Answer.Opened old.conn) ∷ []
   adds = rw opened at goes.adds
 
@@ -65,8 +65,8 @@ module _ (S : Setting) (old new : Client) (pass : ℕ) (before H : History) (ope
   whole b left =
       let rs = splits.each_stream_asks b in
       let came = splits.each_stream_asks goes.got in
-      let done = engines.ended_is_whole new H goes.gave goes.got carries ended (unhalted_of new.is_halted new.is_drained (λ h. (carries.halted_is h).drained) (goes.drained ∙ reads)) came.0 came.1 in
-      let all = asked-ended new H goes.gave goes.got b carries ended (goes.drained ∙ reads) (rw left at goes.reads) rs.0 rs.1 in
+      let done = engines.ended_is_whole new H goes.gave goes.got carries ended (unhalted_of new.is_halted new.is_drained (engines.halted_drained new H goes.gave goes.got carries (goes.behind ∙ unnamed)) (goes.drained ∙ reads)) came.0 came.1 in
+      let all = asked-ended new H goes.gave goes.got b carries ended (goes.drained ∙ reads) (goes.behind ∙ unnamed) (rw left at goes.reads) rs.0 rs.1 in
       let accepted : asked_requests 0 H ≡ up_to_last rs.0 = rw new_is_first at all in
       let many : length (asked_requests 0 H) ≡ length (requests 0 H) = length-map (requests 0 H) request_of in
       record {
@@ -78,7 +78,7 @@ module _ (S : Setting) (old new : Client) (pass : ℕ) (before H : History) (ope
         are = rs.1;
         accepted_are = accepted;
         all_handed = (rw new_is_first at done.all_handed) ∙ sym (history.length-requests 0 H) ∙ sym many ∙ ap length accepted;
-        closed = rw new_is_first at (at_end new H goes.gave goes.got b carries ended (goes.drained ∙ reads)).1.closed;
+        closed = rw new_is_first at (at_end new H goes.gave goes.got b carries ended (goes.drained ∙ reads) (goes.behind ∙ unnamed)).1.closed;
         alone = none_else;
         written = subst (λ (z : List ℕ). Appends old.outbox.held new.outbox.held z) (rw new_is_first at done.taken_is) goes.writes;
       }
@@ -93,16 +93,16 @@ module _ (S : Setting) (old new : Client) (pass : ℕ) (before H : History) (ope
 -- Turns on a core of one's own: where the client was opened first on an empty journal and ended, what is promised is left.
 pub RunsLocal-alone : (core : Proxy) (mid last : AloneFacts Proxy) (pass : ℕ) (old new : Client) → core.steps ≡ [] → IsOfStubs core.setting
     → own_steps mid.pass (journal_of mid.state) ≡ step_by pass Event.Opened (Answer.Opened old.conn) ∷ own_steps pass (journal_of core)
-    → mid.pass ≡ pass → made_with mid.state ≡ made_with core → Carries old (own_steps mid.pass (journal_of mid.state)) [] [] → old.is_drained ≡ false
+    → mid.pass ≡ pass → made_with mid.state ≡ made_with core → Carries old (own_steps mid.pass (journal_of mid.state)) [] [] → old.is_drained ≡ false → old.behind ≡ record { all = false; names = [] }
     → GoesBeside old new (own_steps mid.pass (journal_of mid.state)) (own_steps last.pass (journal_of last.state)) → new.stage ≡ Stage.Closed false
     → last.pass ≡ mid.pass → made_with last.state ≡ made_with mid.state
     → IsLegalJournal (made_with last.state) (journal_of last.state) → steps_of last.pass (journal_of last.state) ≡ journal_of last.state
     → RunsLocal old.inbox.left old.outbox.held new.outbox.held
-RunsLocal-alone core mid last pass old new empty of_stubs opened pass_is made begins reads goes ended pass_stays made_stays legal all =
+RunsLocal-alone core mid last pass old new empty of_stubs opened pass_is made begins reads unnamed goes ended pass_stays made_stays legal all =
     let own : own_steps last.pass (journal_of last.state) ≡ history_of_seen (journal_of last.state) = ap history_of_seen all in
     let here : IsLegal core.setting (history_of_seen (journal_of last.state)) = subst (λ (m : Origin). IsLegal (setting_by m) (history_of_seen (journal_of last.state))) (made_stays ∙ made) legal in
     RunsLocal-ended core.setting old new pass (own_steps mid.pass (journal_of mid.state)) (own_steps last.pass (journal_of last.state))
-    (rw empty at opened) begins reads goes ended
+    (rw empty at opened) begins reads unnamed goes ended
     (rw own here) of_stubs
 
 -- with nothing gathered before, and all given back after

@@ -17,7 +17,7 @@ pub record IsBeside (H H' : History) : Type 0 where
   pub none : (c : ℕ) → connection_steps c later ≡ []
 
 -- Some moves of a client, and of hosts beside it: bytes that were read, bytes that were taken, steps of no other
--- connection, and what the client carries; whether it reads no more stays as it was.
+-- connection, and what the client carries; whether it reads no more, and what closes it, stay as they were.
 pub record GoesBeside (old new : Client) (H H' : History) : Type 0 where
   pub got : List ℕ
   pub gave : List ℕ
@@ -26,6 +26,7 @@ pub record GoesBeside (old new : Client) (H H' : History) : Type 0 where
   pub writes : Appends old.outbox.held new.outbox.held gave
   pub conn : new.conn ≡ old.conn
   pub drained : new.is_drained ≡ old.is_drained
+  pub behind : new.behind ≡ old.behind
   pub adds : H' ≡ later ++ H
   pub alone : (c : ℕ) → c ≢ old.conn → connection_steps c later ≡ []
   pub carries : (taken b : List ℕ) → Carries old H taken b → Carries new H' (taken ++ gave) (b ++ got)

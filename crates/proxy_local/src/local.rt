@@ -20,7 +20,9 @@ use crate::ending::ending_of;
 use crate::stubs::{stub_core, stub_engines};
 use limits::MAX_BUFFERED;
 use proxy_core::{Answer, Core, CoreTurns, Step};
-use proxy_engines::{ClientEngine, HostEngine, Progress, ReadTally, Tallied, WriteTally};
+use proxy_engines::{
+    ClientEnds, ClientEngine, CloseBehind, HostEngine, Progress, ReadTally, Tallied, WriteTally,
+};
 use proxy_exit_status::Ending;
 use std::alloc::Global;
 use std::io::{BufWriter, Read, Write};
@@ -87,15 +89,19 @@ fn open_client<Rt: Wait, T: CoreTurns, R: Read + Drop, W: Write + Drop>(
           taken = [];
           passed = passed_all [];
           counts = record { failed = 0; paused = 0 };
-        }) e) }
+        }) (record { all = false; names = [] }) e) }
     ensures carries { IfOk result (λ e. Carries e
         (own_history (T.facts turns.new)) [] []) }
 {
     let Ok(output) = BufWriter::with_capacity(alloc, MAX_BUFFERED, writer) else {
         return Err(Ending::Memory);
     };
-    let reader = Announced::new(Tallied::new(reader));
-    match ClientEngine::open(rt, alloc, turns, reader, Tallied::new(output)) {
+    let ends = ClientEnds {
+        reader: Announced::new(Tallied::new(reader)),
+        writer: Tallied::new(output),
+        behind: CloseBehind::none(),
+    };
+    match ClientEngine::open(rt, alloc, turns, ends) {
         Ok(client) => Ok(client),
         Err(error) => Err(ending_of(error)),
     }

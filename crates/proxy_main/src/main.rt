@@ -12,7 +12,9 @@ mod settings;
 use crate::settings::{checked, settings_of};
 use mio::net::TcpListener;
 use owner::run_owner;
-use proxy_command_line::{Action, CommandLineError, KIT, VERSION};
+use proxy_command_line::{
+    Action, CommandLineError, KIT, MAX_NAME_BYTES, MAX_NAMES, ServeOptions, VERSION,
+};
 use proxy_config::Config;
 use proxy_exit_status::Ending;
 use proxy_local::local_run;
@@ -59,19 +61,18 @@ fn run_serve<
         + RandomSource
         + Files<File = File>
         + Sync,
->(rt: &R, config: &str, connections: u64, metrics: Option<SocketAddr>) -> u8 {
+>(rt: &R, config: &str, options: ServeOptions) -> u8 {
     let log = log(rt);
     let config = match settings_of(rt, log, config) {
         Ok(config) => config,
         Err(status) => return status,
     };
-    match serve_by(rt, config, log, connections, metrics) {
+    match serve_by(rt, config, log, options) {
         Ok(()) => 0,
         Err(stop) => stopped(rt, log, stop),
     }
 }
 
-// Serves clients by these settings until the server ends.
 fn serve_by<
     R: Runtime
         + AllocGlobal
@@ -81,13 +82,13 @@ fn serve_by<
         + RandomSource
         + Files<File = File>
         + Sync,
->(
-    rt: &R,
-    config: Config,
-    log: Log,
-    connections: u64,
-    metrics: Option<SocketAddr>,
-) -> Result<(), Stop> {
+>(rt: &R, config: Config, log: Log, options: ServeOptions) -> Result<(), Stop> {
+    let ServeOptions {
+        connections,
+        lines,
+        metrics,
+        behind,
+    } = options;
     let listener = match TcpListener::bind(rt, config.listen) {
         Ok(listener) => listener,
         Err(error) => {
@@ -97,8 +98,10 @@ fn serve_by<
     let options = Options {
         admin: admin(rt, metrics)?,
         status: File::open(rt, "/proc/self/status").ok(),
+        lines,
         connections,
         marks: Marks::full(),
+        behind,
         log,
     };
     serve(
@@ -183,26 +186,39 @@ fn run<
         Ok(Action::Local) => run_local(rt),
         Ok(Action::Check { config }) => run_check(rt, config.as_str()),
         Ok(Action::Owner { config, is_hex }) => run_owner(rt, config.as_str(), is_hex),
-        Ok(
-            Action::Serve {
-                config,
-                connections,
-                metrics,
-            },
-        ) => run_serve(rt, config.as_str(), connections, metrics),
-        Err(CommandLineError::Memory) => ended(rt, Ending::Memory),
-        Err(CommandLineError::NoAddress) => {
-            let _ = eprintln!(rt;
-                "error: what --metrics names is no address with a port, as 127.0.0.1:9121"
-            );
-            BAD_COMMAND_LINE
-        }
-        Err(CommandLineError::Parser(text)) => match text.print(rt) {
-            Ok(()) if text.is_help() => 0,
-            Ok(()) => BAD_COMMAND_LINE,
-            Err(_) => ended(rt, Ending::Socket),
-        },
+        Ok(Action::Serve { config, options }) => run_serve(rt, config.as_str(), options),
+        Err(error) => refused_words(rt, error),
     }
+}
+
+// Logs what is wrong with the command line, or prints its help. Returns the status.
+fn refused_words<R: Print + Eprint>(rt: &R, error: CommandLineError) -> u8 {
+    let _ = match error {
+        CommandLineError::Memory => return ended(rt, Ending::Memory),
+        CommandLineError::Parser(text) => {
+            return match text.print(rt) {
+                Ok(()) if text.is_help() => 0,
+                Ok(()) => BAD_COMMAND_LINE,
+                Err(_) => ended(rt, Ending::Socket),
+            };
+        }
+        CommandLineError::NoAddress => eprintln!(rt;
+            "error: what --metrics names is no address with a port, as 127.0.0.1:9121"
+        ),
+        CommandLineError::EmptyName => eprintln!(rt;
+            "error: --close-behind has an empty name; it takes names with commas, as multi,select"
+        ),
+        CommandLineError::LongName => eprintln!(rt;
+            "error: --close-behind has a name of more than {MAX_NAME_BYTES} bytes"
+        ),
+        CommandLineError::ManyNames => eprintln!(rt;
+            "error: --close-behind has more than {MAX_NAMES} names"
+        ),
+        CommandLineError::Supported { name } => eprintln!(rt;
+            "error: --close-behind names {name}, which is supported and isn't refused"
+        ),
+    };
+    BAD_COMMAND_LINE
 }
 
 fn main(rt: HostRuntime) -> ExitCode {

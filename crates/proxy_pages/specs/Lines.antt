@@ -28,6 +28,16 @@ abbrev pub host_text : List ℕ → List ℕ → ℕ → List ℕ
 host_text name host number =
     concat (name ∷ codes "{host=\"" ∷ escaped host ∷ codes "\"} " ∷ decimal number ∷ codes "\n" ∷ [])
 
+-- a number of a host's faults of a cause
+abbrev pub fault_text : List ℕ → List ℕ → List ℕ → ℕ → List ℕ
+fault_text name host cause number =
+    concat (name ∷ codes "{host=\"" ∷ escaped host ∷ codes "\",cause=\"" ∷ cause ∷ codes "\"} " ∷ decimal number ∷ codes "\n" ∷ [])
+
+-- a number of a host in a line of generations
+abbrev pub line_text : List ℕ → List ℕ → ℕ → ℕ → List ℕ
+line_text name host line number =
+    concat (name ∷ codes "{host=\"" ∷ escaped host ∷ codes "\",line=\"" ∷ decimal line ∷ codes "\"} " ∷ decimal number ∷ codes "\n" ∷ [])
+
 -- the version and the kit
 abbrev pub build_text : List ℕ → List ℕ → List ℕ → List ℕ
 build_text name version kit =

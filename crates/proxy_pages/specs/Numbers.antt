@@ -1,5 +1,5 @@
 -- Which number of a snapshot each metric tells.
-use Rattle.std.specs.Prelude.{ℕ, ◌+◌, ◌-◌, ◌^◌, min, Bool, false, if◌then◌else◌, get_or}
+use Rattle.std.specs.Prelude.{ℕ, ◌+◌, ◌-◌, ◌^◌, min, ◌==◌, Bool, false, [], if◌then◌else◌, get_or}
 use Rattle.proxy_stats.specs.declared.tally.HostCounts.{HostCounts}
 use Rattle.proxy_stats.specs.declared.load.HostLoad.{HostLoad}
 use Rattle.proxy_pages.specs.declared.metric.Number.{Number}
@@ -10,6 +10,7 @@ use Rattle.proxy_pages.specs.declared.metric.JournalNumber.{JournalNumber}
 use Rattle.proxy_pages.specs.declared.metric.JournalNumber.TheVariants.{Steps, Bytes}
 use Rattle.proxy_pages.specs.declared.snapshot.Look.{Look}
 use Rattle.proxy_pages.specs.declared.snapshot.Snapshot.{Snapshot}
+use Rattle.proxy_pages.specs.declared.snapshot.LineHosts.{LineHosts}
 
 -- the number, or the greatest `u64` where it is more
 abbrev pub capped : ℕ → ℕ
@@ -56,3 +57,11 @@ host_number s Out h = bit (load_at s.serving h).is_out
 abbrev pub journal_number : JournalNumber → Look → ℕ
 journal_number Steps look = look.steps
 journal_number Bytes look = look.bytes
+
+-- how many lines of generations are told of one by one: none where there is a single one
+abbrev pub lines_shown : Snapshot → ℕ
+lines_shown s = if s.lines == 1 then 0 else min s.lines 64
+
+-- whether a line has a host out
+abbrev pub is_out_in : Snapshot → ℕ → ℕ → Bool
+is_out_in s line h = get_or (get_or s.line_hosts line (record { are_out = [] })).are_out h false

@@ -5,17 +5,20 @@ use Rattle.proxy_histogram.specs.declared.histogram.Histogram.{Histogram}
 use Rattle.proxy_histogram.specs.declared.histogram.TheConstants.{BOUNDS_MS}
 use Rattle.proxy_config.specs.declared.config.Host.{Host}
 use Rattle.proxy_stats.specs.declared.tally.Counts.{Counts}
+use Rattle.proxy_serve_core.specs.FaultLog.{faults_at, of_cause}
+use Rattle.proxy_serve_core.specs.declared.fault_log.FaultCause.{FaultCause}
+use Rattle.proxy_serve_core.specs.declared.fault_log.HostFaults.{HostFaults}
 use Rattle.proxy_pages.specs.declared.metric.Kind.{Kind}
 use Rattle.proxy_pages.specs.declared.metric.Kind.TheVariants.{Counter, Gauge, Histogram as HistogramKind}
 use Rattle.proxy_pages.specs.declared.metric.Numbers.{Numbers}
-use Rattle.proxy_pages.specs.declared.metric.Numbers.TheVariants.{Build, One, ByAnswer, ByCause, ByHost, ByJournal, Durations}
+use Rattle.proxy_pages.specs.declared.metric.Numbers.TheVariants.{Build, One, ByAnswer, ByCause, ByHost, ByHostFault, Out as ByOut, ByJournal, Durations}
 use Rattle.proxy_pages.specs.declared.metric.HostNumber.{HostNumber}
-use Rattle.proxy_pages.specs.declared.metric.HostNumber.TheVariants.{Sent, Answered, Faults, Lost, Waiting, Flying}
+use Rattle.proxy_pages.specs.declared.metric.HostNumber.TheVariants.{Sent, Answered, Faults, Lost, Waiting, Flying, Out}
 use Rattle.proxy_pages.specs.declared.snapshot.About.{About}
 use Rattle.proxy_pages.specs.declared.snapshot.Snapshot.{Snapshot}
-use Rattle.proxy_pages.specs.Lines.{plain_text, labelled_text, host_text, build_text, bound_text, last_bound_text, seconds_text}
+use Rattle.proxy_pages.specs.Lines.{plain_text, labelled_text, host_text, fault_text, line_text, build_text, bound_text, last_bound_text, seconds_text}
 use Rattle.proxy_pages.specs.Table.{Row, metrics}
-use Rattle.proxy_pages.specs.Numbers.{number_of, host_number, journal_number, load_at}
+use Rattle.proxy_pages.specs.Numbers.{number_of, host_number, journal_number, load_at, bit, is_out_in, lines_shown}
 
 -- the texts for 0, 1 and so on, so many, one behind the other
 abbrev pub each : ℕ → (ℕ → List ℕ) → List ℕ
@@ -64,6 +67,40 @@ abbrev pub host_numbers_text : About → Snapshot → List ℕ → HostNumber �
 host_numbers_text about s name number =
     each (host_count about) (λ i. host_text name (host_name about i) (host_number s number i))
 
+-- the word for a cause of faults
+abbrev pub fault_word : FaultCause → List ℕ
+fault_word FaultCause.Refused = codes "refused"
+fault_word FaultCause.Closed = codes "closed"
+fault_word FaultCause.Late = codes "late"
+fault_word FaultCause.Garbled = codes "garbled"
+fault_word FaultCause.TooLong = codes "too_long"
+fault_word FaultCause.GivenUp = codes "given_up"
+
+-- the causes, in their order
+abbrev pub causes : List FaultCause
+causes = FaultCause.Refused ∷ FaultCause.Closed ∷ FaultCause.Late ∷ FaultCause.Garbled ∷ FaultCause.TooLong ∷ FaultCause.GivenUp ∷ []
+
+-- a host's faults, by their cause
+abbrev pub host_faults_text : List ℕ → List ℕ → HostFaults → List ℕ
+host_faults_text name host faults =
+    concat (map (λ cause. fault_text name host (fault_word cause) (of_cause cause faults).count) causes)
+
+-- each host's faults
+abbrev pub faults_text : About → Snapshot → List ℕ → List ℕ
+faults_text about s name = each (host_count about) (λ i. host_faults_text name (host_name about i) (faults_at s.faults i))
+
+-- whether a host is put aside in each line of generations
+abbrev pub lines_out_text : List ℕ → List ℕ → Snapshot → ℕ → List ℕ
+lines_out_text name host s h = each (lines_shown s) (λ line. line_text name host line (bit (is_out_in s line h)))
+
+-- whether a host is put aside: in some line, and in each
+abbrev pub host_outs_text : List ℕ → List ℕ → Snapshot → ℕ → List ℕ
+host_outs_text name host s h = host_text name host (host_number s Out h) ++ lines_out_text name host s h
+
+-- whether each host is put aside
+abbrev pub outs_text : About → Snapshot → List ℕ → List ℕ
+outs_text about s name = each (host_count about) (λ i. host_outs_text name (host_name about i) s i)
+
 -- how many values were at most each bound
 abbrev pub bounds_text : List ℕ → Histogram → List ℕ
 bounds_text name h = each 12 (λ i. bound_text name (slice_index BOUNDS_MS i) (slice_index h.at_most i))
@@ -87,6 +124,8 @@ numbers_by about s name (One number) = plain_text name [] (number_of s number)
 numbers_by about s name ByAnswer = answers_text name s.counts
 numbers_by about s name ByCause = causes_text name s.counts
 numbers_by about s name (ByHost number) = host_numbers_text about s name number
+numbers_by about s name ByHostFault = faults_text about s name
+numbers_by about s name ByOut = outs_text about s name
 numbers_by about s name (ByJournal number) =
     labelled_text name (codes "journal") (codes "serving") (journal_number number s.serving)
     ++ labelled_text name (codes "journal") (codes "draining") (journal_number number s.draining)
@@ -120,6 +159,18 @@ host_line about s i =
     ∷ codes " sent " ∷ number Sent ∷ codes " answered " ∷ number Answered
     ∷ codes " faults " ∷ number Faults ∷ codes " lost " ∷ number Lost ∷ codes "\n" ∷ [])
 
+-- the state of a host in a line of generations
+abbrev pub host_in_line : List ℕ → ℕ → Bool → List ℕ
+host_in_line name line is_out = name ++ concat (codes " line " ∷ decimal line ∷ codes " " ∷ state_word is_out ∷ codes "\n" ∷ [])
+
+-- the state of a host in each line of generations
+abbrev pub host_in_lines : List ℕ → Snapshot → ℕ → List ℕ
+host_in_lines name s i = each (lines_shown s) (λ line. host_in_line name line (is_out_in s line i))
+
+-- what is told of a host
+abbrev pub host_lines : About → Snapshot → ℕ → List ℕ
+host_lines about s i = host_line about s i ++ host_in_lines (host_name about i) s i
+
 -- the page of hosts
 abbrev pub hosts_text : About → Snapshot → List ℕ
-hosts_text about s = each (host_count about) (host_line about s)
+hosts_text about s = each (host_count about) (host_lines about s)

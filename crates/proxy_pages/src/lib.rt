@@ -17,4 +17,4 @@ mod snapshot;
 
 pub use admin::Admin;
 pub use reply::Order;
-pub use snapshot::{About, Look, Snapshot};
+pub use snapshot::{About, LineHosts, Look, MAX_LINES_SHOWN, Snapshot};

@@ -1,7 +1,7 @@
 //! Lines of Prometheus's text format.
 ghost use Rattle.std.specs.Prelude.{◌≡◌, ◌++◌, OnOk, map};
 ghost use Rattle.std.specs.List.{concat};
-ghost use Rattle.proxy_pages.specs.Lines.{plain_text, labelled_text, host_text, build_text, bound_text, last_bound_text, seconds_text, escaped};
+ghost use Rattle.proxy_pages.specs.Lines.{plain_text, labelled_text, host_text, fault_text, line_text, build_text, bound_text, last_bound_text, seconds_text, escaped};
 
 use itoa::Buffer;
 use std::alloc::AllocError;
@@ -72,6 +72,52 @@ pub(crate) fn push_of_host(
     push_all(page, &[name, "{host=\""])?;
     push_escaped(page, host)?;
     push_all(page, &["\"} ", digits.format(number), "\n"])
+}
+
+/// Appends a number of a host's faults of a cause.
+pub(crate) fn push_fault<'a>(
+    page: &mut Vec<u8>,
+    name: &'a str,
+    host: &[u8],
+    cause: &'a str,
+    number: u64,
+) -> Result<(), AllocError>
+    ensures { OnOk result (page.new.items
+        ≡ page.old.items ++ fault_text name.now host.now cause.now number) }
+{
+    let mut digits = Buffer::new();
+    push_all(page, &[name, "{host=\""])?;
+    push_escaped(page, host)?;
+    push_all(
+        page,
+        &["\",cause=\"", cause, "\"} ", digits.format(number), "\n"],
+    )
+}
+
+/// Appends a number of a host in a line of generations.
+pub(crate) fn push_of_line(
+    page: &mut Vec<u8>,
+    name: &str,
+    host: &[u8],
+    line: usize,
+    number: u64,
+) -> Result<(), AllocError>
+    ensures { OnOk result (page.new.items
+        ≡ page.old.items ++ line_text name.now host.now line number) }
+{
+    let (mut lines, mut digits) = (Buffer::new(), Buffer::new());
+    push_all(page, &[name, "{host=\""])?;
+    push_escaped(page, host)?;
+    push_all(
+        page,
+        &[
+            "\",line=\"",
+            lines.format(line),
+            "\"} ",
+            digits.format(number),
+            "\n",
+        ],
+    )
 }
 
 /// Appends the version and the kit.

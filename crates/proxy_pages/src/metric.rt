@@ -1,7 +1,8 @@
 //! The table of metrics: their names and numbers.
 ghost use Rattle.std.specs.Prelude.{◌≡◌, ◌<◌};
-ghost use Rattle.proxy_pages.specs.Pages.{answer_word, kind_word};
+ghost use Rattle.proxy_pages.specs.Pages.{answer_word, fault_word, kind_word};
 
+use proxy_serve_core::FaultCause;
 use proxy_stats::LOCAL_KINDS;
 
 /// Prometheus's types of metrics.
@@ -71,6 +72,12 @@ pub(crate) enum Numbers {
     /// One for each host.
     ByHost(HostNumber),
 
+    /// One for each host and each cause of its faults.
+    ByHostFault,
+
+    /// Whether each host is put aside: in some line of generations, and in each.
+    Out,
+
     /// One for each journal.
     ByJournal(JournalNumber),
 
@@ -120,6 +127,20 @@ pub(crate) fn answer_word(answer: usize) -> &'static str
         4 => "unsupported_command",
         5 => "wrong_number",
         _ => "protocol_error",
+    }
+}
+
+/// The word for a cause of faults.
+pub(crate) fn fault_word(cause: FaultCause) -> &'static str
+    ensures { result.now ≡ fault_word cause }
+{
+    match cause {
+        FaultCause::Refused => "refused",
+        FaultCause::Closed => "closed",
+        FaultCause::Late => "late",
+        FaultCause::Garbled => "garbled",
+        FaultCause::TooLong => "too_long",
+        FaultCause::GivenUp => "given_up",
     }
 }
 
@@ -179,8 +200,8 @@ pub(crate) const METRICS: [Metric; METRIC_COUNT] = [
     Metric {
         name: "redproxy_host_faults_total",
         kind: Kind::Counter,
-        help: "Faults of the host's link.",
-        numbers: Numbers::ByHost(HostNumber::Faults),
+        help: "Faults of the host's link, by their cause.",
+        numbers: Numbers::ByHostFault,
     },
     Metric {
         name: "redproxy_host_parts_lost_total",
@@ -204,7 +225,7 @@ pub(crate) const METRICS: [Metric; METRIC_COUNT] = [
         name: "redproxy_host_out",
         kind: Kind::Gauge,
         help: "Whether the host is put aside.",
-        numbers: Numbers::ByHost(HostNumber::Out),
+        numbers: Numbers::Out,
     },
     Metric {
         name: "redproxy_ejections_total",

@@ -1,16 +1,21 @@
 //! The page of numbers, in Prometheus's text format.
 ghost use Rattle.std.specs.Prelude.{◌≡◌, ◌++◌, ◌<◌, IfOk, OnOk, map, length};
 ghost use Rattle.std.specs.List.{concat};
-ghost use Rattle.proxy_pages.specs.Pages.{head_text, metric_text, metrics_text, numbers_text, answers_text, causes_text, host_numbers_text, durations_text, bounds_text, sum_text};
+ghost use Rattle.proxy_pages.specs.Pages.{head_text, metric_text, metrics_text, numbers_text, answers_text, causes_text, host_numbers_text, host_faults_text, fault_word, faults_text, lines_out_text, host_outs_text, outs_text, durations_text, bounds_text, sum_text};
+ghost use Rattle.proxy_pages.specs.Numbers.{bit};
 ghost use Rattle.proxy_pages.specs.Table.{row_of};
+ghost use Rattle.proxy_pages.specs.Lines.{fault_text};
+ghost use Rattle.proxy_serve_core.specs.FaultLog.{of_cause};
 
 use crate::lines::{
-    push_all, push_bound, push_build, push_labelled, push_last_bound, push_of_host, push_plain,
-    push_seconds,
+    push_all, push_bound, push_build, push_fault, push_labelled, push_last_bound, push_of_host,
+    push_of_line, push_plain, push_seconds,
 };
-use crate::metric::{HostNumber, METRICS, Metric, Numbers, answer_word};
+use crate::metric::{HostNumber, METRICS, Metric, Numbers, answer_word, fault_word};
 use crate::snapshot::{About, Snapshot};
+use limits::MAX_HOSTS;
 use proxy_histogram::{BOUNDS, BOUNDS_MS, Histogram};
+use proxy_serve_core::{FaultCause, HostFaults};
 use proxy_stats::{Counts, LOCAL_KINDS};
 use std::alloc::{AllocError, Global};
 
@@ -91,6 +96,8 @@ impl Metric {
             Numbers::ByAnswer => push_answers(page, self.name, &snapshot.counts),
             Numbers::ByCause => push_causes(page, self.name, &snapshot.counts),
             Numbers::ByHost(number) => push_hosts(page, self.name, number, about, snapshot),
+            Numbers::ByHostFault => push_faults(page, self.name, about, snapshot),
+            Numbers::Out => push_outs(page, self.name, about, snapshot),
             Numbers::ByJournal(number) => {
                 let (serving, draining) = (
                     number.of(&snapshot.serving),
@@ -135,6 +142,96 @@ fn push_hosts(
         push_of_host(page, name, about.host_name(i), number.of(snapshot, i))?;
     }
     Ok(())
+}
+
+fn push_faults(
+    page: &mut Vec<u8>,
+    name: &str,
+    about: &About<'_>,
+    snapshot: &Snapshot,
+) -> Result<(), AllocError>
+    ensures { OnOk result (page.new.items ≡ page.old.items
+        ++ faults_text about.now snapshot.now name.now) }
+{
+    for i in 0..about.host_count() {
+        push_host_faults(page, name, about.host_name(i), &snapshot.faults[i])?;
+    }
+    Ok(())
+}
+
+fn push_host_faults(
+    page: &mut Vec<u8>,
+    name: &str,
+    host: &[u8],
+    faults: &HostFaults,
+) -> Result<(), AllocError>
+    ensures { OnOk result (page.new.items ≡ page.old.items
+        ++ host_faults_text name.now host.now faults.now) }
+{
+    for cause in &FaultCause::ALL {
+        push_fault(
+            page,
+            name,
+            host,
+            fault_word(*cause),
+            faults.of(*cause).count,
+        )?;
+    }
+    Ok(())
+}
+
+fn push_outs(
+    page: &mut Vec<u8>,
+    name: &str,
+    about: &About<'_>,
+    snapshot: &Snapshot,
+) -> Result<(), AllocError>
+    ensures { OnOk result (page.new.items ≡ page.old.items
+        ++ outs_text about.now snapshot.now name.now) }
+{
+    for i in 0..about.host_count() {
+        push_host_outs(page, name, about.host_name(i), snapshot, i)?;
+    }
+    Ok(())
+}
+
+fn push_host_outs(
+    page: &mut Vec<u8>,
+    name: &str,
+    host: &[u8],
+    snapshot: &Snapshot,
+    number: usize,
+) -> Result<(), AllocError>
+    requires { number < MAX_HOSTS }
+    ensures { OnOk result (page.new.items ≡ page.old.items
+        ++ host_outs_text name.now host.now snapshot.now number) }
+{
+    push_of_host(page, name, host, HostNumber::Out.of(snapshot, number))?;
+    push_lines_out(page, name, host, snapshot, number)
+}
+
+fn push_lines_out(
+    page: &mut Vec<u8>,
+    name: &str,
+    host: &[u8],
+    snapshot: &Snapshot,
+    index: usize,
+) -> Result<(), AllocError>
+    requires { index < MAX_HOSTS }
+    ensures { OnOk result (page.new.items ≡ page.old.items
+        ++ lines_out_text name.now host.now snapshot.now index) }
+{
+    for line in 0..snapshot.lines_shown() {
+        let number = bit(snapshot.is_out_in(line, index));
+        push_of_line(page, name, host, line, number)?;
+    }
+    Ok(())
+}
+
+fn bit(is_out: bool) -> u64
+    ensures { result ≡ bit is_out }
+{
+    u64::from(is_out)
 }
 
 fn push_durations(page: &mut Vec<u8>, name: &str, durations: &Histogram) -> Result<(), AllocError>

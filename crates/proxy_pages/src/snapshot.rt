@@ -1,10 +1,15 @@
 //! The numbers behind the pages.
-ghost use Rattle.std.specs.Prelude.{◌≡◌, ◌<◌};
+ghost use Rattle.std.specs.Prelude.{◌≡◌, ◌≤◌, ◌<◌};
+ghost use Rattle.proxy_pages.specs.Numbers.{is_out_in, lines_shown};
 
 use limits::MAX_HOSTS;
 use proxy_config::Host;
 use proxy_histogram::Histogram;
+use proxy_serve_core::HostFaults;
 use proxy_stats::{Counts, Load};
+
+/// The most lines of generations that are shown one by one.
+pub const MAX_LINES_SHOWN: usize = 64;
 
 /// Facts that stay the same while the proxy runs.
 #[derive(Clone, Copy)]
@@ -60,6 +65,20 @@ impl Look {
     };
 }
 
+/// Which hosts one line of generations has out, by their number.
+#[derive(Clone, Copy, Debug, PartialEq, Eq)]
+pub struct LineHosts {
+    /// Whether each host is put aside.
+    pub are_out: [bool; MAX_HOSTS],
+}
+
+impl LineHosts {
+    /// No host is out.
+    pub const NONE: LineHosts = LineHosts {
+        are_out: [false; MAX_HOSTS],
+    };
+}
+
 /// What a proxy has done, and its present state.
 #[derive(Clone, Copy, Debug, PartialEq, Eq)]
 pub struct Snapshot {
@@ -87,6 +106,15 @@ pub struct Snapshot {
     /// The number of closed client connections.
     pub closed: u64,
 
+    /// The faults of each host's links, by its number, over all generations.
+    pub faults: [HostFaults; MAX_HOSTS],
+
+    /// The number of lines of generations; a single one isn't told of by itself.
+    pub lines: usize,
+
+    /// Which hosts each line has out, by its number.
+    pub line_hosts: [LineHosts; MAX_LINES_SHOWN],
+
     /// The durations of commands, from acceptance to answer.
     pub durations: Histogram,
 
@@ -95,4 +123,27 @@ pub struct Snapshot {
 
     /// Whether the proxy was ordered to end.
     pub is_ending: bool,
+}
+
+impl Snapshot {
+    /// How many lines are told of one by one.
+    pub(crate) fn lines_shown(&self) -> usize
+        ensures shown { result ≡ lines_shown self.now }
+        ensures few { result ≤ MAX_LINES_SHOWN }
+    {
+        if self.lines == 1 {
+            0
+        } else {
+            self.lines.min(MAX_LINES_SHOWN)
+        }
+    }
+
+    /// Whether a line has a host out.
+    pub(crate) fn is_out_in(&self, line: usize, host: usize) -> bool
+        requires line { line < MAX_LINES_SHOWN }
+        requires host { host < MAX_HOSTS }
+        ensures { result ≡ is_out_in self.now line host }
+    {
+        self.line_hosts[line].are_out[host]
+    }
 }

@@ -9,7 +9,7 @@ ghost use Rattle.proxy_rounds.specs.Tasks.{HaveOwnPlaces, assigned_of};
 
 use crate::generation_state::{GenerationState, ThreadContext, WorkerStatus};
 use crate::seats::Seats;
-use crate::server::ServerContext;
+use crate::server::LineContext;
 use crate::sweeping::SweepThread;
 use crate::worker::{WAKER, WorkerSetup};
 use crossbeam_utils::CachePadded;
@@ -217,20 +217,20 @@ fn make_notices(alloc: Global, workers: usize) -> Result<(Arc<Notices>, Arc<Noti
     }
 }
 
-/// Opens the generation and serves until its threads have ended. Its counts are added to the server's. If it can't be
-/// opened, this is reported to the server.
+/// Opens the generation and serves until its threads have ended. Its counts are added to the line's. If it can't be
+/// opened, this is reported to the line.
 pub fn run_generation<R: ServeRuntime>(
     rt: &R,
     alloc: Global,
-    context: ServerContext<'_>,
+    context: LineContext<'_>,
     due: Due<Inherited>,
 ) {
-    let (server, number) = (context.server, due.number);
+    let (line, number) = (context.line, due.number);
     if let Err(stop) = open_and_run(rt, alloc, context, due) {
-        if server.has_opened(number) {
-            server.end(rt, stop);
+        if line.has_opened(number) {
+            line.end(rt, stop);
         } else {
-            server.fail(rt, number, stop);
+            line.fail(rt, number, stop);
         }
     }
 }
@@ -240,12 +240,13 @@ pub fn run_generation<R: ServeRuntime>(
 fn open_and_run<R: ServeRuntime>(
     rt: &R,
     alloc: Global,
-    context: ServerContext<'_>,
+    context: LineContext<'_>,
     due: Due<Inherited>,
 ) -> Result<(), Stop> {
-    let ServerContext {
-        server,
+    let LineContext {
+        line,
         config,
+        behind,
         marks,
     } = context;
     let Due { number, from } = due;
@@ -257,15 +258,16 @@ fn open_and_run<R: ServeRuntime>(
         polls,
         workers,
         wakers,
-    } = make_polls(rt, alloc, server.workers())?;
-    let (notices, told) = make_notices(alloc, server.workers())?;
+    } = make_polls(rt, alloc, line.workers())?;
+    let (notices, told) = make_notices(alloc, line.workers())?;
     let core = core(alloc, config, from, told)?;
-    let room = JournalRoom::new(alloc, workers.len() as u64, average)?;
-    let generation = GenerationState::new(server, number, room, workers, notices);
+    let room = JournalRoom::new(alloc, workers.len() as u64, average, line.unfinished()?)?;
+    let generation = GenerationState::new(line, number, room, workers, notices);
     let context = ThreadContext {
         alloc,
         generation: &generation,
         config,
+        behind,
         marks,
     };
     run_at_gate(rt, context, core, polls, wakers)
@@ -323,7 +325,7 @@ fn run_threads<'a, R: ServeRuntime>(
 fn report_end<R: Wait>(rt: &R, generation: &GenerationState<'_>, core: TalliedCore) {
     let steps = core.core().journal().len() as u64;
     generation
-        .server()
+        .line()
         .gone(rt, generation.number(), core.counts(), steps);
     drop(core);
 }

@@ -1,7 +1,8 @@
 //! What the threads of one generation share beside the gate.
 ghost use Rattle.std.specs.Prelude.{◌≤◌, ◌*◌};
 
-use crate::server::Server;
+use crate::server::Line;
+use close_behind::CloseBehind;
 use crossbeam_utils::CachePadded;
 use journal_room::JournalRoom;
 use limits::{MAX_PARTS_AT_ONCE, MAX_START_MS};
@@ -16,6 +17,9 @@ use std::sync::Arc;
 use std::sync::atomic::{AtomicBool, AtomicU8, AtomicU64, Ordering};
 use std::thread;
 use std::time::Duration;
+
+// The time between two looks whether all threads have come. Clients wait meanwhile.
+const START_LOOK_US: u32 = 50;
 
 // The start of a generation isn't decided yet: its threads start.
 const STARTING: u8 = 0;
@@ -32,6 +36,7 @@ pub(crate) struct ThreadContext<'a> {
     pub(crate) alloc: Global,
     pub(crate) generation: &'a GenerationState<'a>,
     pub(crate) config: &'a Config,
+    pub(crate) behind: &'a CloseBehind,
     pub(crate) marks: Marks,
 }
 
@@ -47,7 +52,7 @@ pub(crate) struct WorkerStatus {
 /// What the threads of a generation share. What each round of a worker writes has cache lines of its own, so that no other reads
 /// wait for it.
 pub(crate) struct GenerationState<'a> {
-    server: &'a Server,
+    line: &'a Line,
     number: u64,
     workers: Vec<CachePadded<WorkerStatus>>,
     // What the core's turns tell the workers.
@@ -68,7 +73,7 @@ pub(crate) struct GenerationState<'a> {
 impl Drop for GenerationState<'_> {
     fn drop(self) {
         let GenerationState {
-            server: _,
+            line: _,
             number: _,
             workers: _,
             notices: _,
@@ -110,7 +115,7 @@ impl WorkerStatus {
 impl<'a> GenerationState<'a> {
     /// A generation to which nothing has happened, with the room in its journal.
     pub(crate) fn new(
-        server: &'a Server,
+        line: &'a Line,
         number: u64,
         room: JournalRoom,
         workers: Vec<CachePadded<WorkerStatus>>,
@@ -118,7 +123,7 @@ impl<'a> GenerationState<'a> {
     ) -> GenerationState<'a> {
         let count = workers.len() as u64;
         GenerationState {
-            server,
+            line,
             number,
             workers,
             notices,
@@ -131,8 +136,8 @@ impl<'a> GenerationState<'a> {
         }
     }
 
-    pub(crate) fn server(&self) -> &'a Server {
-        self.server
+    pub(crate) fn line(&self) -> &'a Line {
+        self.line
     }
 
     /// What the core's turns tell its workers.
@@ -155,11 +160,11 @@ impl<'a> GenerationState<'a> {
         if self.come.fetch_add(1, Ordering::SeqCst).saturating_add(1) == self.threads() {
             self.decide(BEGUN);
         }
-        for _ in 0..MAX_START_MS {
+        for _ in 0..MAX_START_MS.saturating_mul(1_000 / START_LOOK_US) {
             if self.start.load(Ordering::SeqCst) != STARTING {
                 break;
             }
-            thread::sleep(rt, Duration::from_millis(1));
+            thread::sleep(rt, Duration::from_micros(u64::from(START_LOOK_US)));
         }
         self.abandon_start();
         self.has_begun()
@@ -198,14 +203,13 @@ impl<'a> GenerationState<'a> {
         }
     }
 
-    /// What the generation is to do: `Server::phase`.
+    /// What the generation is to do: `Line::phase`.
     pub(crate) fn phase(&self) -> Phase {
-        self.server.phase(self.number)
+        self.line.phase(self.number)
     }
 
     /// What its workers are to do: as `phase`, but `Draining` once the room accepts no further commands, and `Stopped` once it
-    /// was: a worker that stops counts on the others to do so, also where the generation is in nobody's way any more. Sockets
-    /// wait in the queues while it takes in nothing and no newer generation is open.
+    /// was, since a worker that stops counts on the others to do so.
     pub(crate) fn worker_phase(&self) -> Phase {
         if self.is_stopped.load(Ordering::SeqCst) {
             return Phase::Stopped;
@@ -235,7 +239,8 @@ impl<'a> GenerationState<'a> {
             most_parts: self.most_parts,
             gives_up: mode.gives_up,
             ends_inputs: mode.ends_inputs,
-            carries_over: self.server.runs(),
+            carries_over: self.line.runs(),
+            buffers_all: !self.line.has_too_much_waiting(),
         }
     }
 

@@ -14,4 +14,4 @@ mod sweeping;
 mod worker;
 
 pub use generation::{ServeRuntime, run_generation};
-pub use server::{Server, ServerContext};
+pub use server::{Line, LineContext, Server};

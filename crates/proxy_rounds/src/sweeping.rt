@@ -1,5 +1,5 @@
 //! The sweeping thread: sweeps when due, and watches hosts and journal.
-ghost use Rattle.std.specs.Prelude.{◌≡◌, []};
+ghost use Rattle.std.specs.Prelude.{◌≡◌, ◌<◌, []};
 ghost use Rattle.proxy_connections.specs.WorkerConnections.{steps_of};
 
 use crate::generation_state::{GenerationState, ThreadContext};
@@ -18,7 +18,7 @@ use std::rt::Clock;
 use std::sync::Wait;
 use std::time::Duration;
 use std::{mem, thread};
-use sweeper::{SweepRefusal, sweep_once};
+use sweeper::{SweepRefusal, Swept, sweep_once};
 use ticket_gate::Seated;
 
 // The milliseconds between two looks of the generation that serves, and of one that drains.
@@ -38,6 +38,8 @@ pub(crate) struct SweepThread<'a> {
     refusals: Refusals,
     // The number of commands that the hosts had answered at the last look.
     answered: u64,
+    // The moment of a sweep since then that ejected hosts.
+    ejected_at: Option<u64>,
 }
 
 impl Drop for SweepThread<'_> {
@@ -50,6 +52,7 @@ impl Drop for SweepThread<'_> {
             wakers: _,
             refusals: _,
             answered: _,
+            ejected_at: _,
         } = self;
     }
 }
@@ -79,6 +82,7 @@ impl<'a> SweepThread<'a> {
             alloc: _,
             generation,
             config,
+            behind: _,
             marks,
         } = context;
         SweepThread {
@@ -89,6 +93,7 @@ impl<'a> SweepThread<'a> {
             wakers,
             refusals: Refusals::new(),
             answered: 0,
+            ejected_at: None,
         }
     }
 
@@ -99,7 +104,7 @@ impl<'a> SweepThread<'a> {
             return;
         }
         if let Err(stop) = self.open_and_sweep(rt) {
-            self.generation.server().end(rt, stop);
+            self.generation.line().end(rt, stop);
         }
     }
 
@@ -122,7 +127,7 @@ impl<'a> SweepThread<'a> {
     fn open<R: Wait + Clock>(&mut self, rt: &R) {
         let alloc = *self.wakers.allocator();
         let wakers = mem::replace(&mut self.wakers, Vec::new(alloc));
-        self.generation.server().open(rt, self.at(now(rt)), wakers);
+        self.generation.line().open(rt, self.at(now(rt)), wakers);
     }
 
     fn sweep_on<R: Wait + Clock + Eprint>(&mut self, rt: &R) -> Result<(), Stop> {
@@ -143,18 +148,18 @@ impl<'a> SweepThread<'a> {
 
     // Whether the server ends, or the generation is drained, which is reported.
     fn ends<R: Wait>(&self, rt: &R) -> bool {
-        let server = self.generation.server();
-        if server.runs() && self.generation.is_drained() {
-            server.drained(rt, self.generation.number());
+        let line = self.generation.line();
+        if line.runs() && self.generation.is_drained() {
+            line.drained(rt, self.generation.number());
             return true;
         }
-        !server.runs()
+        !line.runs()
     }
 
     fn sweep_if_due<R: Wait>(&mut self, rt: &R, moment: u64) -> Result<(), Stop> {
-        let (server, at) = (self.generation.server(), self.at(moment));
-        if server.is_sweep_due(rt, at) && self.sweep(rt, moment)? {
-            server.swept(rt, at);
+        let (line, at) = (self.generation.line(), self.at(moment));
+        if line.is_sweep_due(rt, at) && self.sweep(rt, moment)? {
+            line.swept(rt, at);
         }
         Ok(())
     }
@@ -165,6 +170,7 @@ impl<'a> SweepThread<'a> {
             return Ok(false);
         }
         let swept = sweep_once(rt, &mut self.turns, moment);
+        self.ejected_at = ejected_at(&swept, moment);
         self.generation.room.settle(rt, &mut self.turns, 0);
         match swept {
             Ok(_) | Err(SweepRefusal::JournalFull) => {
@@ -185,8 +191,8 @@ impl<'a> SweepThread<'a> {
     fn sight<R: Wait>(&mut self, rt: &R) -> Result<Sight, Stop> {
         match self.turns.sight(rt) {
             Ok(sight) => {
-                let server = self.generation.server();
-                server.looked(rt, self.generation.number(), &sight);
+                let line = self.generation.line();
+                line.looked(rt, self.generation.number(), &sight);
                 Ok(sight)
             }
             Err(_) => Err(Stop::from(Ending::Spent)),
@@ -204,6 +210,7 @@ impl<'a> SweepThread<'a> {
         if phase == Phase::Serving {
             self.answered = counts.answered;
             self.log_ejections(rt, &handover);
+            self.ejected_at = None;
             self.report_marks(rt, handover, moment);
         } else {
             self.report_progress(rt, counts.answered, moment);
@@ -215,13 +222,13 @@ impl<'a> SweepThread<'a> {
     fn report_progress<R: Wait>(&mut self, rt: &R, answered: u64, moment: u64) {
         if mem::replace(&mut self.answered, answered) != answered {
             let at = self.at(moment);
-            self.generation.server().progressed(rt, at);
+            self.generation.line().progressed(rt, at);
         }
     }
 
     // Reports a journal that is nearly full, and one that has reached its marks or takes in nothing more.
     fn report_marks<R: Wait>(&self, rt: &R, handover: Handover, moment: u64) {
-        let (server, at) = (self.generation.server(), self.at(moment));
+        let (line, at) = (self.generation.line(), self.at(moment));
         let room = &self.generation.room;
         let report = self.marks.report(Look {
             made: handover.steps(),
@@ -230,28 +237,55 @@ impl<'a> SweepThread<'a> {
             is_full: room.is_full(),
         });
         if report.near {
-            server.near(rt, at);
+            line.near(rt, at);
         }
         if report.full {
             let average = room.average(rt);
-            server.full(rt, at, Inherited { handover, average });
+            line.full(rt, at, Inherited { handover, average });
         }
     }
 
-    // Logs each host that has been ejected or has returned since the last look of any generation.
+    // Logs each host that has been ejected or has returned since the last look of any generation of the line, if no other line
+    // has it ejected.
     fn log_ejections<R: Wait + Eprint>(&self, rt: &R, sight: &Handover) {
-        let (server, number) = (self.generation.server(), self.generation.number());
-        let mut ejections = server.ejections(rt);
+        let (line, number) = (self.generation.line(), self.generation.number());
+        let mut ejections = line.ejections(rt);
         let hosts = sight.rules().hosts;
         for (host, entry) in self.config.hosts.iter().enumerate() {
             if host >= hosts {
                 return;
             }
             let is_out = sight.is_out(host);
-            if ejections.is_news(number, host, is_out) {
-                log_ejection(rt, server.log(), entry.address, is_out);
+            if ejections.is_news(number, host, is_out) && line.note_out(rt, host, is_out) {
+                if is_out {
+                    self.log_ejected(rt, entry.address, sight, host);
+                } else {
+                    log_back(rt, line.log(), entry.address);
+                }
             }
         }
+    }
+
+    // A sweep ejects by rates, all else by streaks.
+    fn log_ejected<R: Eprint>(&self, rt: &R, address: SocketAddr, sight: &Handover, host: usize)
+        requires { host < sight.now.detection.rules.hosts }
+    {
+        let tag = self.generation.line().log().tag(Level::Warning);
+        let ms = sight.ejection_ms(host);
+        let is_by_rate = match self.ejected_at {
+            Some(moment) => sight.ejected_at(host) >= moment,
+            None => false,
+        };
+        let _ = if is_by_rate {
+            eprintln!(rt;
+                "{tag}redproxy: host {address} is put aside for {ms} ms, for its share of failures"
+            )
+        } else {
+            let many = sight.rules().settings.consecutive;
+            eprintln!(rt;
+                "{tag}redproxy: host {address} is put aside for {ms} ms, after {many} failures in a row"
+            )
+        };
     }
 }
 
@@ -262,12 +296,15 @@ fn pause(phase: Phase) -> u64 {
     }
 }
 
-fn log_ejection<R: Eprint>(rt: &R, log: Log, address: SocketAddr, is_out: bool) {
-    if is_out {
-        let tag = log.tag(Level::Warning);
-        let _ = eprintln!(rt; "{tag}redproxy: host {address} is put aside");
-    } else {
-        let tag = log.tag(Level::Notice);
-        let _ = eprintln!(rt; "{tag}redproxy: host {address} is back");
+// The moment of a sweep, if it ejected hosts.
+fn ejected_at(swept: &Result<Swept, SweepRefusal>, moment: u64) -> Option<u64> {
+    match swept {
+        Ok(counts) if counts.ejected > 0 => Some(moment),
+        Ok(_) | Err(_) => None,
     }
+}
+
+fn log_back<R: Eprint>(rt: &R, log: Log, address: SocketAddr) {
+    let tag = log.tag(Level::Notice);
+    let _ = eprintln!(rt; "{tag}redproxy: host {address} is back");
 }

@@ -20,6 +20,7 @@ use std::time::Duration;
 use ticket_gate::Seated;
 
 mod closing;
+mod faults;
 mod opening;
 mod stepping;
 
@@ -49,6 +50,12 @@ const NO_MEMORY_MS: u64 = 1;
 
 // The most events taken from the poll, and sockets from the queue, at once.
 const MAX_EVENTS: usize = 1_024;
+
+// The most sockets opened in a round, so that clients are served between them.
+const MAX_OPENED: usize = 64;
+
+// The most idle clients that leave in a round, so that busy ones leave first.
+const MAX_LEAVING: usize = 32;
 
 /// What a worker starts with.
 pub(crate) struct WorkerSetup<'a> {
@@ -127,15 +134,18 @@ impl<'a> WorkerSetup<'a> {
             alloc,
             generation,
             config,
+            behind,
             marks: _,
         } = context;
         Ok(Worker {
             poll,
             generation,
-            connections: WorkerConnections::new(alloc, place, config, seat)?,
+            connections: WorkerConnections::new(alloc, place, config, behind, seat)?,
+            reply_ms: config.reply_ms,
             opening: Refusals::new(),
             now: 0,
             lacks_memory: false,
+            undrained: 0,
             may_have_sockets: true,
             accepted_at: 0,
             looked_at: 0,
@@ -174,11 +184,14 @@ struct Worker<'a> {
     poll: Poll,
     generation: &'a GenerationState<'a>,
     connections: WorkerConnections<'a>,
+    reply_ms: u32,
     // Consecutive refusals of memory to the first socket in the queue.
     opening: Refusals,
     now: u64,
     // Something in this round found no memory.
     lacks_memory: bool,
+    // The first client that may not drain yet, once the worker does.
+    undrained: usize,
     // Sockets may wait in the queue.
     may_have_sockets: bool,
     accepted_at: u64,
@@ -197,9 +210,11 @@ impl Drop for Worker<'_> {
             poll: _,
             generation: _,
             connections: _,
+            reply_ms: _,
             opening: _,
             now: _,
             lacks_memory: _,
+            undrained: _,
             may_have_sockets: _,
             accepted_at: _,
             looked_at: _,
@@ -223,7 +238,7 @@ impl<'a> Worker<'a> {
         }
         match self.run_rounds(rt, events) {
             Ok(()) => self.close_clients(rt),
-            Err(stop) => self.generation.server().end(rt, stop),
+            Err(stop) => self.generation.line().end(rt, stop),
         }
     }
 
@@ -270,12 +285,21 @@ impl<'a> Worker<'a> {
         phase
     }
 
-    // Takes in no further commands of its clients, and reports it.
+    // Takes in no further commands, and reports it: from here on each client drains before it is stepped.
     fn drain(&mut self) {
-        for key in 0..self.connections.capacity() {
+        self.undrained = 0;
+        self.generation.stop_taking();
+    }
+
+    // Has a few more clients drain.
+    fn drain_some(&mut self) -> Remaining {
+        let capacity = self.connections.capacity();
+        let end = self.undrained.saturating_add(MAX_LEAVING).min(capacity);
+        for key in self.undrained..end {
             self.connections.drain(key);
         }
-        self.generation.stop_taking();
+        self.undrained = end;
+        Remaining::work_if(end < capacity)
     }
 
     fn wait(&mut self, events: &mut Events, pause: u64) -> Result<(), Stop> {
@@ -292,16 +316,15 @@ impl<'a> Worker<'a> {
         Ok(())
     }
 
-    // A worker that stops answers what it still can, and hands sockets over, before it closes the others. It makes rounds while a
-    // client may be answered: other workers give up their hosts' parts at the same time. Without connections nobody waits for a
-    // part, so no link is given up, which would count as a fault of its host.
+    // A worker that stops answers what it still can, and hands sockets over, before it closes the others. Without connections
+    // no link is given up, which would count as a fault of its host.
     fn finish<R: Wait + Net + Clock + Eprint>(
         &mut self,
         rt: &R,
         events: &mut Events,
     ) -> Result<(), Stop> {
         for _ in 0..MAX_LAST_ROUNDS {
-            if !self.generation.server().runs() || self.generation.is_drained() {
+            if !self.generation.line().runs() || self.generation.is_drained() {
                 break;
             }
             let remaining = self.make_round(rt)?;
@@ -321,13 +344,13 @@ impl<'a> Worker<'a> {
     fn report_durations<R: Wait>(&mut self, rt: &R) {
         let reported = self.connections.take_durations();
         if reported.total > 0 {
-            self.generation.server().add_durations(rt, &reported);
+            self.generation.line().add_durations(rt, &reported);
         }
     }
 
     // Ends its clients' inputs once the server drains.
     fn end_inputs(&mut self) {
-        if !self.generation.server().is_draining() || self.mode.end_inputs() == Change::Stays {
+        if !self.generation.line().is_draining() || self.mode.end_inputs() == Change::Stays {
             return;
         }
         for key in 0..self.connections.capacity() {
@@ -373,7 +396,12 @@ impl<'a> Worker<'a> {
             self.accepted_at = self.now;
             self.open_sockets(rt)?;
         }
-        let remaining = self.step_all(rt)?;
+        let undrained = if self.mode.drains {
+            self.drain_some()
+        } else {
+            Remaining::Nothing
+        };
+        let remaining = self.step_all(rt)?.or(undrained);
         if self.now.saturating_sub(self.reported_at) >= REPORT_MS {
             self.reported_at = self.now;
             self.report_durations(rt);

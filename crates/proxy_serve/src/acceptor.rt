@@ -1,13 +1,14 @@
 //! The thread that accepts sockets and obeys signals.
 
+use crate::shares::Shares;
 use crate::signals::Signals;
 use fresh_stream::FreshStream;
 use mio::net::TcpListener;
 use mio::{Events, Interest, Poll, Token, Waker};
 use proxy_config::Config;
 use proxy_rounds::Server;
-use proxy_serve_core::{Asked, RoundRobin};
-use proxy_server::{Level, Log, Stop, now};
+use proxy_serve_core::Asked;
+use proxy_server::{Level, Stop, now};
 use std::fs::File;
 use std::io;
 use std::io::ErrorKind;
@@ -45,8 +46,7 @@ pub(crate) struct Acceptor {
     listener: Option<TcpListener>,
     // The listener's address.
     address: SocketAddr,
-    // The worker that gets the next socket.
-    round_robin: RoundRobin,
+    shares: Shares,
     signals: Signals,
 }
 
@@ -56,19 +56,19 @@ impl Drop for Acceptor {
             poll: _,
             listener: _,
             address: _,
-            round_robin: _,
+            shares: _,
             signals: _,
         } = self;
     }
 }
 
 impl Acceptor {
-    /// Makes a poll for the listener, and a waker of the thread that waits at it. The address of the settings stands in where
-    /// the system doesn't return the listener's.
+    /// Makes a poll for the listener, and its waker. The settings' address stands in where the system returns none.
     pub(crate) fn open<R: Net>(
         rt: &R,
         mut listener: TcpListener,
         config: &Config,
+        shares: Shares,
         status: Option<File>,
     ) -> Result<(Acceptor, Waker), Stop> {
         let (poll, waker) = open_poll(rt, &mut listener)?;
@@ -76,27 +76,33 @@ impl Acceptor {
             poll,
             address: listener.local_addr().unwrap_or(config.listen),
             listener: Some(listener),
-            round_robin: RoundRobin::new(config.workers as usize),
+            shares,
             signals: Signals::new(status),
         };
         Ok((acceptor, waker))
     }
 
     /// Logs the start. What SIGTERM does depends on how the program was started.
-    pub(crate) fn log_start<R: Eprint>(&mut self, rt: &R, log: Log, config: &Config) {
-        let tag = log.tag(Level::Info);
+    pub(crate) fn log_start<R: Eprint>(&mut self, rt: &R, server: &Server, config: &Config) {
+        let (tag, lines) = (server.log().tag(Level::Info), server.lines());
         let (address, hosts, workers) = (self.address, config.hosts.len(), config.workers);
         let ends = if self.signals.is_term_orderly() {
             "drains"
         } else {
             "ends it at once"
         };
-        let _ = eprintln!(rt;
-            "{tag}redproxy: listening on {address}, {hosts} hosts, {workers} workers; SIGTERM {ends}"
-        );
+        let _ = if lines == 1 {
+            eprintln!(rt;
+                "{tag}redproxy: listening on {address}, {hosts} hosts, {workers} workers; SIGTERM {ends}"
+            )
+        } else {
+            eprintln!(rt;
+                "{tag}redproxy: listening on {address}, {hosts} hosts, {workers} workers in each of {lines} lines; SIGTERM {ends}"
+            )
+        };
     }
 
-    // Waits for the poll's events, at most `PAUSE_MS` milliseconds.
+    // Waits at most `PAUSE_MS` milliseconds.
     fn wait(&mut self, events: &mut Events) -> Result<(), Stop> {
         match self
             .poll
@@ -128,18 +134,14 @@ impl Acceptor {
         Ok(())
     }
 
-    // Gives new connections to the workers in turn. One without room is closed.
     fn accept_all<R: Wait>(&mut self, rt: &R, server: &Server) -> Result<(), Stop> {
         let Some(listener) = &self.listener else {
             return Ok(());
         };
+        self.shares.note_gone(server);
         for _ in 0..MAX_TAKEN {
             match FreshStream::accept(listener) {
-                Ok(stream) => {
-                    if let Some(stream) = server.admit(stream) {
-                        server.push(rt, self.round_robin.take(), stream);
-                    }
-                }
+                Ok(stream) => self.shares.give(rt, server, stream),
                 Err(error) => {
                     if error.kind() == ErrorKind::WouldBlock || has_no_room(&error) {
                         break;
@@ -165,7 +167,6 @@ fn has_no_room(error: &io::Error) -> bool {
     }
 }
 
-// Opens the poll of the accepting thread, with its waker.
 fn open_poll<R: Net>(rt: &R, listener: &mut TcpListener) -> Result<(Poll, Waker), Stop> {
     let poll = match Poll::new(rt) {
         Ok(poll) => poll,

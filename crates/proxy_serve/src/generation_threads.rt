@@ -1,7 +1,7 @@
 //! The threads in which generations run.
 
 use limits::MAX_GENERATIONS;
-use proxy_rounds::Server;
+use proxy_rounds::Line;
 use std::alloc::{AllocError, Global};
 use std::collections::VecDeque;
 use std::thread::{JoinHandle, Threads};
@@ -13,7 +13,7 @@ struct GenerationThread {
     handle: JoinHandle<()>,
 }
 
-/// The threads of the latest generations, the oldest first. All but one of these have connections; that closes its gate.
+/// The threads of the latest generations of a line, the oldest first. All but one of these have connections; that closes its gate.
 #[derive(Drop)]
 pub(crate) struct GenerationThreads {
     threads: VecDeque<GenerationThread>,
@@ -29,13 +29,13 @@ impl GenerationThreads {
 
     /// Makes room for one more thread: waits for those of generations without connections, but for one. This bounds the
     /// number of journals.
-    pub(crate) fn make_room<R: Threads>(&mut self, rt: &R, server: &Server) {
+    pub(crate) fn make_room<R: Threads>(&mut self, rt: &R, line: &Line) {
         let mut spared = false;
         for _ in 0..self.threads.len() {
             let Some(thread) = self.threads.pop_back() else {
                 return;
             };
-            if server.has_connections(thread.number) {
+            if line.has_connections(thread.number) {
                 self.keep(rt, thread);
             } else if spared {
                 thread.handle.join(rt);

@@ -1,14 +1,15 @@
 //! Serves clients on sockets, before real hosts, with many threads.
 //!
-//! One thread accepts sockets and gives them to the workers in turn. It takes each generation that is due, and runs it in a
-//! thread of its own: when a journal is nearly full, the next generation opens with the state of outlier detection.
+//! One thread accepts sockets. It gives each to the line of generations with the fewest, whose workers take turns. It runs each
+//! generation that is due in a thread of its own: when a journal is nearly full, the line's next generation opens with the
+//! state of outlier detection.
 //!
 //! ```text
 //! Acceptor           AdminListener          the threads of a generation, each with a pass of its own:
 //!   │ admit, push      │ snapshot              Worker ..           SweepThread
 //!   │ drain, quit      │ drain, quit             │ pop, carry        │ open, looked, near, full, drained
 //!   ▼                  ▼                         ▼                   ▼
-//! Server: AcceptQueue of each worker, OpenSockets, Generations and Board, Stats, EjectionLog
+//! Server: OpenSockets, and each Line: AcceptQueue of each worker, Generations and Board, Stats, EjectionLog
 //!                                                │                   │
 //!               GenerationState: WorkerStatus, Notices, JournalRoom, and the gate
 //! ```
@@ -20,8 +21,10 @@
 mod acceptor;
 mod generation_threads;
 mod serving;
+mod shares;
 mod signals;
 
+pub use close_behind::CloseBehind;
 pub use proxy_admin::Admin;
 pub use proxy_connections::{assigned_hosts_have_one_pass, passes_share_no_host};
 pub use proxy_generations::Marks;

@@ -2,16 +2,19 @@
 
 use crate::acceptor::Acceptor;
 use crate::generation_threads::GenerationThreads;
+use crate::shares::Shares;
+use close_behind::CloseBehind;
 use mio::Events;
 use mio::net::TcpListener;
+use open_sockets::MAX_LINES;
 use proxy_admin::{Admin, AdminListener};
 use proxy_config::Config;
 use proxy_exit_status::Ending;
-use proxy_generations::Marks;
-use proxy_rounds::{ServeRuntime, Server, ServerContext, run_generation};
-use proxy_server::{Log, Stop};
+use proxy_generations::{Due, Marks};
+use proxy_rounds::{LineContext, ServeRuntime, Server, run_generation};
+use proxy_server::{Extent, Inherited, Log, Stop};
 use proxy_stats::Counts;
-use std::alloc::Global;
+use std::alloc::{AllocError, Global};
 use std::fs::File;
 use std::io::Write;
 use std::net::Net;
@@ -28,10 +31,14 @@ pub struct Options {
     pub admin: Option<Admin>,
     /// `/proc/self/status`, which shows pending signals; `None`: signals aren't heeded.
     pub status: Option<File>,
+    /// The number of lines of generations, 1 to `MAX_LINES`, each with as many workers as the settings say.
+    pub lines: u32,
     /// The number of closed connections after which it ends; 0 is never.
     pub connections: u64,
     /// The length of a journal at which the next one opens.
     pub marks: Marks,
+    /// Behind which refused commands a connection is closed.
+    pub behind: CloseBehind,
     /// The beginning of its lines on standard error.
     pub log: Log,
 }
@@ -62,7 +69,6 @@ pub fn serve<R: ServeRuntime, W: Write>(
     write_counts(&served?, output)
 }
 
-// Opens the operator's end, if an address is given.
 fn open_admin<R: Net>(
     rt: &R,
     alloc: Global,
@@ -85,27 +91,33 @@ fn run_server<R: ServeRuntime>(
     let Options {
         admin,
         status,
+        lines,
         connections,
         marks,
+        behind,
         log,
     } = options;
     let admin = open_admin(rt, alloc, admin)?;
-    let (mut acceptor, waker) = Acceptor::open(rt, listener, config, status)?;
-    let server = Server::new(alloc, config, waker, connections, log)?;
-    acceptor.log_start(rt, log, config);
-    let context = ServerContext {
+    let lines = lines.clamp(1, MAX_LINES) as usize;
+    let shares = Shares::new(alloc, lines, config.workers as usize)?;
+    let (mut acceptor, waker) = Acceptor::open(rt, listener, config, shares, status)?;
+    let extent = Extent { lines, connections };
+    let server = Server::new(alloc, config, waker, extent, log)?;
+    acceptor.log_start(rt, &server, config);
+    let serving = Serving {
         server: &server,
         config,
+        behind: &behind,
         marks,
     };
-    run_generations(rt, alloc, acceptor, admin, context)?;
+    run_generations(rt, alloc, acceptor, admin, serving)?;
     match server.stop_reason(rt) {
         Some(stop) => Err(stop),
         None => Ok(server.counts(rt)),
     }
 }
 
-/// Like `serve`, but returns only the ending; without an operator's address, and ignoring signals.
+/// `serve` with one line, no operator's address and no signals; returns only the ending.
 pub fn serve_run<R: ServeRuntime, W: Write>(
     rt: &R,
     alloc: Global,
@@ -118,8 +130,10 @@ pub fn serve_run<R: ServeRuntime, W: Write>(
     let options = Options {
         admin: None,
         status: None,
+        lines: 1,
         connections,
         marks,
+        behind: CloseBehind::none(),
         log: Log::new(false),
     };
     match serve(rt, alloc, listener, config, options, output) {
@@ -128,25 +142,55 @@ pub fn serve_run<R: ServeRuntime, W: Write>(
     }
 }
 
-// Answers the operator until the server ends.
-fn run_admin<R: ServeRuntime>(rt: &R, admin: AdminListener, context: ServerContext<'_>) {
-    admin.run(rt, context.server, context.config.hosts.as_slice());
+#[derive(Clone, Copy, Drop)]
+struct Serving<'a> {
+    server: &'a Server,
+    config: &'a Config,
+    behind: &'a CloseBehind,
+    marks: Marks,
 }
 
-// Runs one generation after another until the server ends.
+impl<'a> Serving<'a> {
+    // The generation that a line is to open now.
+    fn take_due<R: Wait>(&self, rt: &R, index: usize) -> Option<(LineContext<'a>, Due<Inherited>)> {
+        let line = self.server.line(index)?;
+        let due = line.take_due(rt)?;
+        let context = LineContext {
+            line,
+            config: self.config,
+            behind: self.behind,
+            marks: self.marks,
+        };
+        Some((context, due))
+    }
+}
+
+fn run_admin<R: ServeRuntime>(rt: &R, admin: AdminListener, serving: Serving<'_>) {
+    admin.run(rt, serving.server, serving.config.hosts.as_slice());
+}
+
+fn threads_of(alloc: Global, lines: usize) -> Result<Vec<GenerationThreads>, AllocError> {
+    let mut threads = Vec::new(alloc);
+    for _ in 0..lines {
+        threads.push(GenerationThreads::new(alloc)?)?;
+    }
+    Ok(threads)
+}
+
+// Runs one generation of each line after another until the server ends.
 fn run_generations<R: ServeRuntime>(
     rt: &R,
     alloc: Global,
     mut acceptor: Acceptor,
     admin: Option<AdminListener>,
-    context: ServerContext<'_>,
+    serving: Serving<'_>,
 ) -> Result<(), Stop> {
-    let server = context.server;
+    let server = serving.server;
     let mut events = Events::with_capacity(alloc, MAX_EVENTS)?;
-    let mut threads = GenerationThreads::new(alloc)?;
+    let mut threads = threads_of(alloc, server.lines())?;
     thread::scope(thread::scope_env(), rt, |scope| {
         if let Some(admin) = admin {
-            if scope.spawn(move || run_admin(rt, admin, context)).is_err() {
+            if scope.spawn(move || run_admin(rt, admin, serving)).is_err() {
                 server.end(rt, Stop::from(Ending::Memory));
             }
         }
@@ -154,25 +198,28 @@ fn run_generations<R: ServeRuntime>(
             if !server.runs() {
                 break;
             }
-            if let Some(due) = server.take_due(rt) {
+            for index in 0..threads.len() {
+                let Some((context, due)) = serving.take_due(rt, index) else {
+                    continue;
+                };
                 let number = due.number;
-                threads.make_room(rt, server);
-                let begun = scope.spawn(move || run_generation(rt, alloc, context, due));
-                match begun {
-                    Ok(handle) => threads.add(rt, number, handle),
-                    Err(_) => server.fail(rt, number, Stop::from(Ending::Memory)),
+                threads[index].make_room(rt, context.line);
+                match scope.spawn(move || run_generation(rt, alloc, context, due)) {
+                    Ok(handle) => threads[index].add(rt, number, handle),
+                    Err(_) => context.line.fail(rt, number, Stop::from(Ending::Memory)),
                 }
             }
             if let Err(stop) = acceptor.run_once(rt, server, &mut events) {
                 server.end(rt, stop);
             }
         }
-        threads.join_all(rt);
+        for index in 0..threads.len() {
+            threads[index].join_all(rt);
+        }
     });
     Ok(())
 }
 
-// Writes the last line: the counts of the whole run.
 fn write_counts<W: Write>(counts: &Counts, output: &mut W) -> Result<(), Stop> {
     let (accepted, handed) = (counts.accepted, counts.handed);
     let (sent, answered) = (counts.sent, counts.answered);

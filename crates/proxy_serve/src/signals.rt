@@ -42,7 +42,6 @@ impl Signals {
         is_term_blocked(&text[..count])
     }
 
-    // Reads the status, and returns its length.
     fn read(&mut self, text: &mut [u8]) -> usize
         ensures { result ≤ length text.old }
     {

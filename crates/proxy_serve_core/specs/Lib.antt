@@ -1,5 +1,6 @@
 pub mod RoundRobin
 pub mod EjectionLog
+pub mod FaultLog
 pub mod KeySet
 pub mod ReadyClients
 pub mod Signals

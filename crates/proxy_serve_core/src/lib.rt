@@ -3,6 +3,7 @@
 #![tactic(auto)]
 
 mod ejection_log;
+mod fault_log;
 mod key_range;
 mod key_set;
 mod ready_clients;
@@ -11,6 +12,7 @@ mod round_robin;
 mod signals;
 
 pub use ejection_log::EjectionLog;
+pub use fault_log::{CauseFaults, FaultCause, FaultLog, HostFaults, LinkLoss};
 pub use key_range::KeyRange;
 pub use ready_clients::ReadyClients;
 pub use refusals::Refusals;

@@ -5,9 +5,11 @@ use Rattle.std.proofs.Crossing.{crosses}
 use Rattle.proxy_core.specs.contracts.handover.Handover as Handover
 use Rattle.proxy_generations.specs.contracts.lifecycle.Due as Due
 use Rattle.proxy_generations.specs.contracts.lifecycle.Generations as Generations
-use Rattle.proxy_server.specs.contracts.server.AcceptQueue as AcceptQueue
+use Rattle.proxy_server.specs.contracts.line.AcceptQueue as AcceptQueue
+use Rattle.proxy_server.specs.contracts.line.Line as Line
+use Rattle.proxy_server.specs.contracts.process.Process as Process
 use Rattle.proxy_server.specs.contracts.server.Server as Server
-use Rattle.proxy_server.specs.contracts.server.Inherited as Inherited
+use Rattle.proxy_server.specs.contracts.line.Inherited as Inherited
 use Rattle.proxy_server.specs.contracts.living.Living as Living
 use Rattle.proxy_server.specs.contracts.stats.Stats as Stats
 use Rattle.proxy_server.specs.contracts.stop.Stop as Stop
@@ -48,5 +50,14 @@ ejections_send = search (crosses, sendable) depth 30 fits 20000
 queue_sync : (C : RattleType) → IsSend C → IsSync (AcceptQueue.the_row C)
 queue_sync C s = search (admitted_send, crosses, sendable) depth 40 fits 20000
 
+process_sync : IsSync Process.the_row
+process_sync = search (sockets_sync, stop_send, crosses, sendable) depth 40 fits 20000
+
+process_send : IsSend Process.the_row
+process_send = search (sockets_sync, stop_send, crosses, sendable) depth 40 fits 20000
+
+pub line_sync : (C : RattleType) → IsSend C → IsSync (Line.the_row C)
+line_sync C s = search (generations_send, stats_send, ejections_send, process_sync, process_send, queue_sync, crosses, sendable) depth 40 fits 20000
+
 pub server_sync : (C : RattleType) → IsSend C → IsSync (Server.the_row C)
-server_sync C s = search (generations_send, stats_send, ejections_send, sockets_sync, queue_sync, stop_send, crosses, sendable) depth 40 fits 20000
+server_sync C s = search (line_sync, process_sync, process_send, crosses, sendable) depth 40 fits 20000

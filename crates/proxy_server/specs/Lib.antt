@@ -4,3 +4,4 @@ pub mod Living
 pub mod Words
 pub mod Board
 pub mod Stop
+pub mod HostOuts

@@ -1,5 +1,5 @@
 -- Looks at several generations, added up.
-use Rattle.std.specs.Prelude.{◌≡◌, ℕ, ◌+◌, ◌<◌, ◌||◌, List, map, sum_by, slice_index_or}
+use Rattle.std.specs.Prelude.{◌≡◌, ℕ, Bool, false, ◌+◌, ◌<◌, ◌||◌, List, map, sum_by, slice_index_or}
 use Rattle.std.specs.List.{list_any}
 use Rattle.proxy_pages.specs.declared.snapshot.Look.{Look}
 use Rattle.proxy_stats.specs.declared.load.HostLoad.{HostLoad}
@@ -12,6 +12,10 @@ with_load one other = record {
   flying = capped_sum (one.flying + other.flying);
   is_out = one.is_out || other.is_out;
 }
+
+-- whether a look has a host out
+abbrev pub is_out_at : Look → ℕ → Bool
+is_out_at look h = (slice_index_or look.load.hosts h (record { waiting = 0; flying = 0; is_out = false })).is_out
 
 -- a host's load is the sum over these, and it is out where it is out in any
 pub record IsHostLoadSum (all : List HostLoad) (l : HostLoad) : Type 0 where

@@ -1,8 +1,8 @@
 //! What each generation is to do, readable without a lock. Atomics carry here what `words.rt` and `seen.rt` decide.
 
+use crate::line::Inherited;
 use crate::newest::Newest;
 use crate::seen::Seen;
-use crate::server::Inherited;
 use crate::task_words::TaskWords;
 use proxy_generations::{Generations, Phase};
 use std::alloc::{AllocError, Global};

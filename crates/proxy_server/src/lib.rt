@@ -4,12 +4,15 @@
 #![tactic(auto)]
 
 mod board;
+mod host_outs;
+mod line;
 mod living;
 mod log;
 mod look_sum;
 mod moment;
 mod newest;
 mod operating;
+mod process;
 mod seen;
 mod server;
 mod stats;
@@ -17,7 +20,9 @@ mod stop;
 mod task_words;
 mod words;
 
+pub use line::{Inherited, Line};
 pub use log::{Level, Log};
 pub use moment::now;
-pub use server::{Inherited, Server};
+pub use process::Extent;
+pub use server::Server;
 pub use stop::{Failure, Stop};

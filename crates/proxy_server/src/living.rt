@@ -7,8 +7,8 @@ ghost use Rattle.proxy_server.specs.Living.{is_beside, is_draining, is_number, l
 ghost use Rattle.proxy_server.specs.CountSums.{AreSums};
 ghost use Rattle.proxy_server.specs.LookSums.{IsLookSum};
 
+use crate::line::Inherited;
 use crate::look_sum::{both, no_look};
-use crate::server::Inherited;
 use proxy_generations::Generations;
 use proxy_pages::Look;
 use proxy_stats::{Counts, Sight};

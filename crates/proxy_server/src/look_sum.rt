@@ -1,11 +1,11 @@
 //! Looks added up.
-ghost use Rattle.std.specs.Prelude.{◌≡◌, ◌<◌, ◌∷◌, [], ℕ, List, ◌++◌, slice_index_or};
+ghost use Rattle.std.specs.Prelude.{false, ◌≡◌, ◌<◌, ◌∷◌, [], ℕ, List, ◌++◌, slice_index_or};
 ghost use Rattle.proxy_pages.specs.declared.snapshot.Look.{Look as LookOf};
 ghost use Rattle.proxy_stats.specs.declared.load.HostLoad.{HostLoad as HostLoadOf};
-ghost use Rattle.proxy_server.specs.LookSums.{IsLookSum, with_load};
+ghost use Rattle.proxy_server.specs.LookSums.{IsLookSum, is_out_at, with_load};
 
 use limits::MAX_HOSTS;
-use proxy_pages::Look;
+use proxy_pages::{LineHosts, Look};
 use proxy_stats::{HostLoad, Load};
 
 pub(crate) fn no_look() -> Look
@@ -49,4 +49,16 @@ fn with_load(one: &HostLoad, other: &HostLoad) -> HostLoad
         flying: one.flying.saturating_add(other.flying),
         is_out: one.is_out || other.is_out,
     }
+}
+
+/// Which hosts a line has out, by the look at its newest generation.
+pub(crate) fn line_hosts(look: &Look) -> LineHosts
+    ensures { (h : ℕ) → h < 64
+        → slice_index_or result.are_out h false ≡ is_out_at look.now h }
+{
+    let mut are_out = [false; MAX_HOSTS];
+    for h in 0..MAX_HOSTS {
+        are_out[h] = look.load.hosts[h].is_out;
+    }
+    LineHosts { are_out }
 }

@@ -5,7 +5,7 @@ ghost use Rattle.proxy_generations.specs.History.{IsHistory};
 ghost use Rattle.proxy_generations.specs.Phase.{IsPhase, IsTask};
 ghost use Rattle.proxy_server.specs.Board.{Shows};
 
-use crate::server::Inherited;
+use crate::line::Inherited;
 use crate::words::task_in;
 use proxy_generations::{Generations, Phase, generations_follow};
 

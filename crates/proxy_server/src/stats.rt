@@ -9,8 +9,8 @@ ghost use Rattle.proxy_server.specs.CountSums.{AreSums};
 ghost use Rattle.proxy_server.specs.LookSums.{IsLookSum};
 ghost use Rattle.proxy_server.specs.declared.stats.TheConstants.{MAX_LIVING};
 
+use crate::line::Inherited;
 use crate::living::{self, Living};
-use crate::server::Inherited;
 use limits::MAX_GENERATIONS;
 use proxy_generations::Generations;
 use proxy_histogram::Histogram;

@@ -1,6 +1,6 @@
 //! What the generations that drain are to do, readable without a lock.
 
-use crate::server::Inherited;
+use crate::line::Inherited;
 use crate::words::{NOBODY, Shown, anew, free_place, pack, task_in};
 use limits::MAX_GENERATIONS;
 use proxy_generations::{Generations, Phase};

@@ -6,7 +6,7 @@ ghost use Rattle.proxy_generations.specs.GenerationsState.{Settings, Stands};
 ghost use Rattle.proxy_server.specs.Board.{IsAnew};
 ghost use Rattle.proxy_server.specs.Words.{AreShown, FitsWord, IsWord, code_of};
 
-use crate::server::Inherited;
+use crate::line::Inherited;
 use proxy_generations::{Generations, Phase, draining_are_older};
 
 /// The word that shows no generation.

@@ -20,7 +20,7 @@ is_line (c ∷ s) e =
     let q = and_parts _ _ p.0 in
     ((eqb-false c 13 (not-true _ q.0), eqb-false c 10 (not-true _ q.1)), is_line s p.1)
 
-is_length : (most n : ℕ) → most < 2 ^ 32 → n ≤ most → IsLength most (decimal n) n
+pub is_length : (most n : ℕ) → most < 2 ^ 32 → n ≤ most → IsLength most (decimal n) n
 is_length most n small h = record {
   some = decimal_nonempty n (omega arith);
   few = length-decimal-le 10 n (omega arith) (omega arith) (omega arith);

@@ -1,13 +1,13 @@
 -- Commands that are their text.
-use Rattle.std.proofs.Common.{lt-ltb, ◌≡◌, ◌<◌, ◌≤◌, ◌^◌, ◌+◌, ℕ, zero, suc, List, [], ◌∷◌, ◌++◌, length, map, take, drop, slice_index_or, true, Some, inl, inr, refl, sym, ap, ◌∙◌, arith, subst, decimal, ◌-◌}
+use Rattle.std.proofs.Common.{lt-ltb, ◌≡◌, ◌<◌, ◌≤◌, ◌^◌, ◌+◌, ◌*◌, ◌/◌, ◌%◌, ℕ, zero, suc, List, [], ◌∷◌, ◌++◌, length, map, take, drop, slice_index_or, get_or, true, Some, inl, inr, refl, sym, ap, ◌∙◌, arith, subst, decimal, ◌-◌}
 use Rattle.std.proofs.lemmas.List.{map-append, length-map, length-append, append_assoc, length-drop, length-take-le, append-nil, take-append-drop, take-append-le, take_all}
 use Rattle.std.proofs.Math.Seq.{drop-append-add}
 use Rattle.std.specs.List.{list_all}
-use Rattle.std.proofs.lemmas.Fmt.{decimal_digit}
+use Rattle.std.proofs.lemmas.Fmt.{decimal_digit, decimal_step}
 use Rattle.resp_core.specs.Tree.{bulk, list, trees_of, members, are_plain_trees}
 use Rattle.resp_core.specs.Command.{word, words_of, payload_of, is_bulk, is_command, are_words, command_of}
 use Rattle.resp_core.specs.Grammar.{IsText, max_bulk, max_depth}
-use Rattle.resp_core.specs.Reading.{Outcome, found, unfinished, refused, and_then, count_at, payload_at, text_at, value_at}
+use Rattle.resp_core.specs.Reading.{Outcome, found, unfinished, refused, and_then, count_at, payload_at, bulk_at, leaf_at, text_at, value_at}
 use Rattle.resp_core.specs.ResumedReading.{GoesOn, IsGoodFound, IsGoodNext, found_at, line_tree, next_at}
 use Rattle.resp_core.specs.declared.error.Refusal.{Refusal}
 use Rattle.resp_core.specs.declared.head.Head.{Head}
@@ -25,7 +25,7 @@ use Rattle.resp_core.specs.declared.value.Value.{Value}
 use Rattle.resp_core.specs.declared.partial_value.PartialValue.{PartialValue}
 use Rattle.resp_core.specs.PartialValue.{Reads, IsFresh, Gave}
 use Rattle.resp_core.specs.ValueLimits.{IsWithin, AreWithin}
-use Rattle.resp_core.proofs.RoundTripLemmas.{text_is_read}
+use Rattle.resp_core.proofs.RoundTripLemmas.{is_length, text_is_read}
 use Rattle.resp_core.proofs.TreeLemmas.{length_members, members_trees}
 use Rattle.resp_core.proofs.OneSpellingLemmas.{one_length}
 use Rattle.resp_core.proofs.unfinished.HeadLemmas.{head_unfinished}
@@ -139,14 +139,30 @@ scanned_all count m len b rest i all some few len_is short =
     )
 
 -- the payload and the bytes behind its line end, as they are cut
+pub record IsCutAt (len : ℕ) (s rest b front back : List ℕ) : Type 0 where
+  pub inside : len ≤ length b
+  pub end : 2 ≤ length back
+  pub front_is : front ≡ s
+  pub back_is : take (length back - 2) (drop 2 back) ≡ rest
+
+pub cut_at : (len : ℕ) (s rest b front back : List ℕ) → b ≡ s ++ line_end ++ rest → len ≡ length s → front ≡ take len b → back ≡ drop len b → IsCutAt len s rest b front back
+cut_at len s rest b front back parts len_is front_is back_is =
+    let split : b ≡ s ++ (line_end ++ rest) = parts ∙ append_assoc s line_end rest in
+    let s_is : front ≡ s = front_is ∙ ap (take len) split ∙ ap (λ z. take z (s ++ (line_end ++ rest))) len_is ∙ take-append-le (length s) s (line_end ++ rest) (omega arith) ∙ take_all (length s) s (omega arith) in
+    let n : len ≡ length s + 0 = omega (arith, len_is) in
+    let behind : back ≡ 13 ∷ 10 ∷ rest = back_is ∙ ap (drop len) split ∙ ap (λ z. drop z (s ++ (line_end ++ rest))) n ∙ drop-append-add s (line_end ++ rest) 0 in
+    record {
+      inside = omega (arith, ap length split, length-append s (line_end ++ rest), len_is);
+      end = omega (arith, ap length behind);
+      front_is = s_is;
+      back_is = ap (λ z. take (length z - 2) (drop 2 z)) behind ∙ take_all (length (13 ∷ 10 ∷ rest) - 2) rest (omega arith);
+    }
+
 pub cut_is : (head len : ℕ) (s rest b front back : List ℕ) → IsPlace head len s rest b → front ≡ take len (take (length b - head) (drop head b)) → back ≡ drop len (take (length b - head) (drop head b)) → (front ≡ s) × (take (length back - 2) (drop 2 back) ≡ rest)
 cut_is head len s rest b front back p front_is back_is =
-    let all : take (length b - head) (drop head b) ≡ (s ++ line_end) ++ rest = take_all (length b - head) (drop head b) (omega (arith, length-drop head b)) ∙ p.behind in
-    let split : take (length b - head) (drop head b) ≡ s ++ (line_end ++ rest) = all ∙ append_assoc s line_end rest in
-    let s_is : front ≡ s = front_is ∙ ap (take len) split ∙ ap (λ z. take z (s ++ (line_end ++ rest))) p.len_is ∙ take-append-le (length s) s (line_end ++ rest) (omega arith) ∙ take_all (length s) s (omega arith) in
-    let n : len ≡ length s + 0 = omega (arith, p.len_is) in
-    let behind : back ≡ 13 ∷ 10 ∷ rest = back_is ∙ ap (drop len) split ∙ ap (λ z. drop z (s ++ (line_end ++ rest))) n ∙ drop-append-add s (line_end ++ rest) 0 in
-    (s_is, ap (λ z. take (length z - 2) (drop 2 z)) behind ∙ take_all (length (13 ∷ 10 ∷ rest) - 2) rest (omega arith))
+    let all : take (length b - head) (drop head b) ≡ s ++ line_end ++ rest = take_all (length b - head) (drop head b) (omega (arith, length-drop head b)) ∙ p.behind in
+    let cut = cut_at len s rest (take (length b - head) (drop head b)) front back all p.len_is front_is back_is in
+    (cut.front_is, cut.back_is)
 
 -- the line with the number of words is four bytes long
 pub spelled_front : (b : List ℕ) (ws : List (List ℕ)) → IsSpelled b ws → b ≡ 42 ∷ (48 + length ws) ∷ 13 ∷ 10 ∷ texts (trees_of (map bulk ws))
@@ -297,3 +313,39 @@ spelled_gave most len held ws us p q fresh came spelled is inside few small pend
         same = λ y. rw (opens ∙ fresh.opens, done ∙ fresh.done, next ∙ fresh.next) refl;
       };
     }
+
+-- a line with a number of one digit, and of two
+pub one_digit : (kind n : ℕ) (b : List ℕ) → 4 ≤ length b → get_or b 0 0 ≡ kind → (48 ≤ get_or b 1 0) × (get_or b 1 0 ≤ 57) × (n ≡ get_or b 1 0 - 48) → get_or b 2 0 ≡ 13 → get_or b 3 0 ≡ 10 → b ≡ line kind (decimal n) ++ take (length b - 4) (drop 4 b)
+one_digit kind n (a ∷ x ∷ y ∷ z ∷ rest) long first (low, high, is) cr lf =
+    let ones : x ≡ 48 + n = omega (arith, low, is) in
+    let behind : take (length (a ∷ x ∷ y ∷ z ∷ rest) - 4) rest ≡ rest = take_all (length (a ∷ x ∷ y ∷ z ∷ rest) - 4) rest (omega arith) in
+    rw (decimal_digit n (omega (arith, high, is)), behind, ← first, ← ones, cr, lf) refl
+one_digit kind n [] long first d cr lf = absurd (omega (arith, long))
+one_digit kind n (a ∷ []) long first d cr lf = absurd (omega (arith, long))
+one_digit kind n (a ∷ x ∷ []) long first d cr lf = absurd (omega (arith, long))
+one_digit kind n (a ∷ x ∷ y ∷ []) long first d cr lf = absurd (omega (arith, long))
+
+pub two_digits : (kind t n : ℕ) (b : List ℕ) → 5 ≤ length b → get_or b 0 0 ≡ kind → (48 ≤ get_or b 1 0) × (get_or b 1 0 ≤ 57) × (t ≡ get_or b 1 0 - 48) → (48 ≤ get_or b 2 0) × (get_or b 2 0 ≤ 57) × (n ≡ get_or b 2 0 - 48) → 10 ≤ t * 10 + n → get_or b 3 0 ≡ 13 → get_or b 4 0 ≡ 10 → b ≡ line kind (decimal (t * 10 + n)) ++ take (length b - 5) (drop 5 b)
+two_digits kind t n (a ∷ w ∷ x ∷ y ∷ z ∷ rest) long first (t_low, t_high, t_is) (low, high, is) some cr lf =
+    let tens : w ≡ 48 + t = omega (arith, t_low, t_is) in
+    let ones : x ≡ 48 + n = omega (arith, low, is) in
+    let above : (t * 10 + n) / 10 ≡ t = omega (arith, high, is) in
+    let below : (t * 10 + n) % 10 ≡ n = omega (arith, high, is) in
+    let behind : take (length (a ∷ w ∷ x ∷ y ∷ z ∷ rest) - 5) rest ≡ rest = take_all (length (a ∷ w ∷ x ∷ y ∷ z ∷ rest) - 5) rest (omega arith) in
+    rw (decimal_step (t * 10 + n) some (omega (arith, t_high, t_is, high, is)), above, below, decimal_digit t (omega (arith, t_high, t_is)), behind, ← first, ← tens, ← ones, cr, lf) refl
+two_digits kind t n [] long first d e some cr lf = absurd (omega (arith, long))
+two_digits kind t n (a ∷ []) long first d e some cr lf = absurd (omega (arith, long))
+two_digits kind t n (a ∷ w ∷ []) long first d e some cr lf = absurd (omega (arith, long))
+two_digits kind t n (a ∷ w ∷ x ∷ []) long first d e some cr lf = absurd (omega (arith, long))
+two_digits kind t n (a ∷ w ∷ x ∷ y ∷ []) long first d e some cr lf = absurd (omega (arith, long))
+
+-- behind a length line in the one spelling stand its bytes
+bulk_behind_line : (n : ℕ) (first : List ℕ) → n ≤ max_bulk → value_at 0 0 (line 36 (decimal n) ++ first) ≡ payload_at (Some n) first
+unfolding value_at leaf_at bulk_at
+bulk_behind_line n first few =
+    ap (λ o. and_then o payload_at) ((count-reads max_bulk).again (decimal n ++ line_end) first (Some n) (inr (n, (decimal n, is_length max_bulk n (omega arith) few, refl), refl)))
+
+pub cut_behind_line : (n : ℕ) (b first s rest front back : List ℕ) → b ≡ line 36 (decimal n) ++ first → n ≤ max_bulk → b ≡ text (bulk s) ++ rest → length s ≤ max_bulk → front ≡ take n first → back ≡ drop n first → IsCutAt n s rest first front back
+cut_behind_line n b first s rest front back head few is short front_is back_is =
+    let cut = payload_cut n first rest s (sym (bulk_behind_line n first few) ∙ ap (value_at 0 0) (sym head) ∙ bulk_is_read b s rest is short) in
+    cut_at n s rest first front back cut.parts cut.count front_is back_is

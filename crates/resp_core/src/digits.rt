@@ -50,7 +50,7 @@ pub(crate) fn negated(n: u64) -> i64
     if n == 0 { 0 } else { -((n - 1) as i64) - 1 }
 }
 
-fn digit_of(byte: u8) -> Option<u64>
+pub(crate) fn digit_of(byte: u8) -> Option<u64>
     ensures { IfSome result (λ n. (48 ≤ byte) × (byte ≤ 57) × (n ≡ byte - 48)) }
 {
     if byte.is_ascii_digit() {

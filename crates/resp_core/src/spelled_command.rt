@@ -8,7 +8,7 @@ ghost use Rattle.resp_core.specs.Command.{word, command_of};
 ghost use Rattle.resp_core.specs.Value.{tree_of};
 ghost use Rattle.resp_core.specs.SpelledCommand.{IsPlace, IsSpelled};
 
-use crate::digits::short_length;
+use crate::digits::{digit_of, short_length};
 use crate::head::{Found, Head, Next, RefusedByte, read_head, short_bulk};
 use crate::parse::take_payload;
 use crate::payload::Payload;
@@ -46,8 +46,55 @@ impl Model for SpelledCommand {
     ghost invariant = { λ c. IsSpelled c.text (words_in c.text) };
 }
 
-// The number has at most three digits and no leading zeros.
+// The number has at most three digits and no leading zeros. Most have one or two.
+#[inline(always)]
 fn short_line(bytes: &[u8], kind: u8, limit: u64) -> Option<(u64, &[u8])>
+    ensures line { IfSome result (λ x. bytes.now ≡ line kind (decimal x.0) ++ x.1.now) }
+    ensures limit { IfSome result (λ x. x.0 ≤ limit) }
+{
+    if let Some(found) = one_digit_line(bytes, kind, limit) {
+        return Some(found);
+    }
+    if let Some(found) = two_digit_line(bytes, kind, limit) {
+        return Some(found);
+    }
+    long_line(bytes, kind, limit)
+}
+
+#[inline(always)]
+fn one_digit_line(bytes: &[u8], kind: u8, limit: u64) -> Option<(u64, &[u8])>
+    ensures line { IfSome result (λ x. bytes.now ≡ line kind (decimal x.0) ++ x.1.now) }
+    ensures limit { IfSome result (λ x. x.0 ≤ limit) }
+{
+    let [first, ones, b'\r', b'\n', rest @ ..] = bytes else {
+        return None;
+    };
+    let n = digit_of(*ones)?;
+    if *first == kind && n <= limit {
+        Some((n, rest))
+    } else {
+        None
+    }
+}
+
+#[inline(always)]
+fn two_digit_line(bytes: &[u8], kind: u8, limit: u64) -> Option<(u64, &[u8])>
+    ensures line { IfSome result (λ x. bytes.now ≡ line kind (decimal x.0) ++ x.1.now) }
+    ensures limit { IfSome result (λ x. x.0 ≤ limit) }
+{
+    let [first, tens, ones, b'\r', b'\n', rest @ ..] = bytes else {
+        return None;
+    };
+    let n = digit_of(*tens)? * 10 + digit_of(*ones)?;
+    if *first == kind && n >= 10 && n <= limit {
+        Some((n, rest))
+    } else {
+        None
+    }
+}
+
+#[inline(never)]
+fn long_line(bytes: &[u8], kind: u8, limit: u64) -> Option<(u64, &[u8])>
     ensures line { IfSome result (λ x. bytes.now ≡ line kind (decimal x.0) ++ x.1.now) }
     ensures limit { IfSome result (λ x. x.0 ≤ limit) }
 {
@@ -126,7 +173,23 @@ fn place_of(bytes: &[u8]) -> Place
     }
 }
 
+#[inline(always)]
 fn split_bulk(bytes: &[u8]) -> (&[u8], &[u8])
+    requires { (s rest : List ℕ) × (bytes.now ≡ text (bulk s) ++ rest) × (length s ≤ max_bulk) }
+    ensures { (s rest : List ℕ) → bytes.now ≡ text (bulk s) ++ rest → length s ≤ max_bulk
+        → (result.0.now ≡ s) × (result.1.now ≡ rest) }
+{
+    match short_line(bytes, b'$', MAX_BULK) {
+        Some((len, behind)) => {
+            let (word, end) = behind.split_at(len as usize);
+            (word, &end[2..])
+        }
+        None => split_long_bulk(bytes),
+    }
+}
+
+#[inline(never)]
+fn split_long_bulk(bytes: &[u8]) -> (&[u8], &[u8])
     requires { (s rest : List ℕ) × (bytes.now ≡ text (bulk s) ++ rest) × (length s ≤ max_bulk) }
     ensures { (s rest : List ℕ) → bytes.now ≡ text (bulk s) ++ rest → length s ≤ max_bulk
         → (result.0.now ≡ s) × (result.1.now ≡ rest) }

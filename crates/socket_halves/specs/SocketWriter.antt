@@ -3,7 +3,6 @@ use Rattle.std.specs.Prelude.{◌≡◌, ◌⊎◌, ◌≤◌, ◌<◌, ◌*◌,
 use Rattle.std.specs.IoError.{error_kind}
 use Rattle.std.specs.declared.io.Error.{Error}
 use Rattle.std.specs.declared.io.ErrorKind.TheVariants.{WouldBlock}
-use Rattle.limits.specs.declared.workers.TheConstants.{MAX_BUFFERED}
 use Rattle.proxy_devices.specs.Device.{Counts, Passed, WriteState}
 use Rattle.proxy_devices.specs.Faulty.{moved_count}
 use Rattle.proxy_devices.specs.declared.tally.IoOutcome.{IoOutcome}
@@ -62,7 +61,8 @@ pub record TellsWrite (old new : SocketWriterState) (bytes : List ℕ) (told : I
   pub ended : told ≡ IoOutcome.End → new.output.is_broken ≡ true
   pub failed : told ≡ IoOutcome.Failed → new.output.is_broken ≡ true
   -- no more is buffered than was or may be
-  pub limit : length new.output.buffered ≤ max (length old.output.buffered) (2 * MAX_BUFFERED)
+  pub limit : length new.output.buffered ≤ max (length old.output.buffered) (2 * old.output.bound)
+  pub bound_is : new.output.bound ≡ old.output.bound
   -- after a failed write nothing changes
   pub broken : old.output.is_broken ≡ true → (told ≡ IoOutcome.Failed) × (new.output ≡ old.output)
   pub short : IsShortBy told bytes new.is_short

@@ -8,17 +8,18 @@ use Rattle.limits.specs.declared.workers.TheConstants.{MAX_BUFFERED}
 use Rattle.socket_halves.specs.Moved.{moved_bytes}
 
 -- what a writer has, as far as it tells; all that it took since the buffer was made, the oldest first; the bytes that are
--- buffered for it; whether it may take some, and whether a write failed
+-- buffered for it, and how many are before some are written; whether it may take some, and whether a write failed
 pub record WriteBufferState : Type 0 where
   pub held : Option (List ℕ)
   pub taken : List ℕ
   pub buffered : List ℕ
+  pub bound : ℕ
   pub is_writable : Bool
   pub is_broken : Bool
 
 -- over a writer that has these bytes and may take some, nothing is buffered
 abbrev pub fresh_buffer : Option (List ℕ) → WriteBufferState
-fresh_buffer held = record { held = held; taken = []; buffered = []; is_writable = true; is_broken = false }
+fresh_buffer held = record { held = held; taken = []; buffered = []; bound = MAX_BUFFERED; is_writable = true; is_broken = false }
 
 -- all bytes that were accepted since the buffer was made: those that the writer took, and those that are buffered
 abbrev pub accepted : WriteBufferState → List ℕ
@@ -47,6 +48,7 @@ StaysWritable old new = old.is_writable ≡ true → new.is_broken ≡ false →
 -- what was buffered goes out, as far as the writer takes it
 pub record WritesOut (old new : WriteBufferState) : Type 0 where
   pub goes_out : GoesOut old new []
+  pub bound_is : new.bound ≡ old.bound
   -- nothing is left that may be written
   pub ends : may_write new ≡ false
   pub whole : StaysWritable old new
@@ -64,7 +66,8 @@ pub record Accepts (old new : WriteBufferState) (bytes : List ℕ) (result : Res
 pub record WritesBuffer (old new : WriteBufferState) (bytes : List ℕ) (result : Result ℕ Error) : Type 0 where
   pub accepts : Accepts old new bytes result
   -- no more is buffered than was or may be
-  pub limit : length new.buffered ≤ max (length old.buffered) (2 * MAX_BUFFERED)
+  pub limit : length new.buffered ≤ max (length old.buffered) (2 * old.bound)
+  pub bound_is : new.bound ≡ old.bound
   -- after a failed write nothing changes
   pub broken : old.is_broken ≡ true → (new ≡ old) × IsErrAnd result (λ e. error_kind e ≡ BrokenPipe)
   pub whole : IfOk result (λ n. n ≡ length bytes → StaysWritable old new)

@@ -1,7 +1,8 @@
-ghost use Rattle.std.specs.Prelude.{◌≡◌, ◌≢◌, ◌<◌, ◌==◌, ◌||◌, ◌↔◌, not, true, false, [], length, IfOk, IfErr, IsTrue, None};
+ghost use Rattle.std.specs.Prelude.{◌≡◌, ◌≢◌, ◌<◌, ◌==◌, ◌||◌, ◌↔◌, not, true, false, [], length, max, IfOk, IfErr, IsTrue, None};
 ghost use Rattle.std.specs.Io.{WritesAtMost};
 ghost use Rattle.std.specs.Io.KnownBytes.{Keeps, WriteAppends};
 ghost use Rattle.std.specs.IoError.{error_kind};
+ghost use Rattle.limits.specs.declared.workers.TheConstants.{MAX_BUFFERED};
 ghost use Rattle.proxy_devices.specs.Device.{CountsWrite, IsWritten, TakesNone};
 ghost use Rattle.socket_halves.specs.WriteBuffer.{WritesOut, accepted, may_write};
 ghost use Rattle.socket_halves.specs.SocketWriter.{TellsWrite, WritesHalf, engine_writer, fresh_writer, passed_of};
@@ -90,6 +91,22 @@ impl<S: Write> SocketWriter<S> {
             ≡ record self.old { output = record self.old.output { is_broken = true } } }
     {
         self.output.break_off();
+    }
+
+    /// From here on this many bytes are buffered before some are written, at least 65,536.
+    pub fn set_bound(&mut self, bound: usize)
+        ensures { self.new ≡ record self.old {
+          output = record self.old.output { bound = max bound MAX_BUFFERED };
+        } }
+    {
+        self.output.set_bound(bound);
+    }
+
+    /// The number of buffered bytes.
+    pub fn buffered(&self) -> usize
+        ensures { result ≡ length self.now.output.buffered }
+    {
+        self.output.count()
     }
 
     /// Whether a write failed.

@@ -1,7 +1,8 @@
-ghost use Rattle.std.specs.Prelude.{◌≡◌, ◌≢◌, ◌≤◌, ◌<◌, ◌==◌, true, false, [], ◌++◌, length, IfOk, IfErr, OnOk, OnErr};
+ghost use Rattle.std.specs.Prelude.{◌≡◌, ◌≢◌, ◌≤◌, ◌<◌, ◌==◌, true, false, [], ◌++◌, length, max, IfOk, IfErr, OnOk, OnErr};
 ghost use Rattle.std.specs.Io.{WritesAtMost};
 ghost use Rattle.std.specs.Io.KnownBytes.{WriteAppends};
 ghost use Rattle.std.specs.IoError.{error_kind};
+ghost use Rattle.limits.specs.declared.workers.TheConstants.{MAX_BUFFERED};
 ghost use Rattle.socket_halves.specs.WriteBuffer.{Accepts, GoesOut, StaysWritable, WritesBuffer, WritesOut, fresh_buffer, may_write};
 
 use limits::MAX_BUFFERED;
@@ -26,6 +27,10 @@ pub struct WriteBuffer<W: Write> {
     bytes: Vec<u8>,
     // Bytes in front that are written.
     written: usize,
+    // This many buffered bytes are written before more are buffered.
+    bound: usize,
+    // The greatest bound since the buffer was empty.
+    greatest: usize,
     is_writable: bool,
     is_broken: bool,
 }
@@ -41,12 +46,13 @@ impl<W: Write> Model for WriteBuffer<W> {
       held = W.contents g.writer;
       taken = g.taken.bytes;
       buffered = drop g.written g.bytes.items;
+      bound = g.bound;
       is_writable = g.is_writable;
       is_broken = g.is_broken;
     } };
 
-    ghost invariant = { λ g. (g.written ≤ length g.bytes.items)
-        × (length g.bytes.items ≤ 3 * MAX_BUFFERED) };
+    ghost invariant = { λ g. (g.written ≤ length g.bytes.items) × (MAX_BUFFERED ≤ g.bound)
+        × (g.bound ≤ g.greatest) × (length g.bytes.items ≤ 3 * g.greatest) };
 }
 
 fn paused() -> io::Error
@@ -87,7 +93,7 @@ fn write_once<W: Write>(writer: &mut W, bytes: &[u8]) -> io::Result<usize>
 }
 
 impl<W: Write> WriteBuffer<W> {
-    /// Nothing is buffered, and the writer may take bytes.
+    /// Nothing is buffered, the bound is 65,536 bytes, and the writer may take bytes.
     pub fn new(alloc: Global, writer: W) -> WriteBuffer<W>
         ensures { result ≡ fresh_buffer (W.contents writer) }
     {
@@ -97,6 +103,8 @@ impl<W: Write> WriteBuffer<W> {
             taken: ByteLog::new(),
             bytes: Vec::new(alloc),
             written: 0,
+            bound: MAX_BUFFERED,
+            greatest: MAX_BUFFERED,
             is_writable: true,
             is_broken: false,
         }
@@ -114,6 +122,14 @@ impl<W: Write> WriteBuffer<W> {
         ensures { self.new ≡ record self.old { is_writable = true } }
     {
         self.is_writable = true;
+    }
+
+    /// From here on this many bytes are buffered before some are written, at least 65,536.
+    pub fn set_bound(&mut self, bound: usize)
+        ensures { self.new ≡ record self.old { bound = max bound MAX_BUFFERED } }
+    {
+        self.bound = bound.max(MAX_BUFFERED);
+        self.greatest = self.greatest.max(self.bound);
     }
 
     /// From here on, behaves as after a failed write.
@@ -155,6 +171,7 @@ impl<W: Write> WriteBuffer<W> {
             buffer.clear();
             self.bytes.clear();
             self.written = 0;
+            self.greatest = self.bound;
             mem::swap(&mut self.bytes, buffer);
         }
     }
@@ -180,6 +197,7 @@ impl<W: Write> WriteBuffer<W> {
 
     fn write_some(&mut self)
         ensures goes_out { GoesOut self.old self.new [] }
+        ensures bound { self.new.bound ≡ self.old.bound }
         ensures ends { may_write self.new ≡ false }
         ensures whole { self.old.buffered ≢ [] → StaysWritable self.old self.new }
     {
@@ -219,7 +237,8 @@ impl<W: Write> WriteBuffer<W> {
         }
     }
 
-    fn count(&self) -> usize
+    /// The number of buffered bytes.
+    pub fn count(&self) -> usize
         ensures { result ≡ length self.now.buffered }
     {
         self.bytes.len() - self.written
@@ -230,6 +249,7 @@ impl<W: Write> WriteBuffer<W> {
         requires { self.old.buffered ≡ [] }
         ensures bound { WritesAtMost result bytes.now }
         ensures accepts { Accepts self.old self.new bytes.now result }
+        ensures bound_stays { self.new.bound ≡ self.old.bound }
         ensures buffered { self.new.buffered ≡ [] }
         ensures whole { IfOk result (λ n. n ≡ length bytes.now → self.new.is_writable ≡ true) }
     {
@@ -249,15 +269,15 @@ impl<W: Write> WriteBuffer<W> {
         }
     }
 
-    // Written bytes go first, where there are many or nothing else is there.
+    // Written bytes go first, where they are as many as the others, or nothing else is there.
     fn append(&mut self, bytes: &[u8]) -> Result<(), AllocError>
-        requires few { length self.old.buffered < MAX_BUFFERED }
-        requires short { length bytes.now < MAX_BUFFERED }
+        requires few { length self.old.buffered < self.old.bound }
+        requires short { length bytes.now < self.old.bound }
         ensures ok { OnOk result (self.new
             ≡ record self.old { buffered = self.old.buffered ++ bytes.now }) }
         ensures err { OnErr result (self.new ≡ self.old) }
     {
-        if self.written >= MAX_BUFFERED || self.is_empty() {
+        if self.written >= self.count().max(MAX_BUFFERED) || self.is_empty() {
             self.bytes.drain(..self.written);
             self.written = 0;
         }
@@ -269,20 +289,22 @@ impl<W: Write> WriteBuffer<W> {
 
     fn make_room(&mut self, count: usize)
         ensures goes_out { GoesOut self.old self.new [] }
-        ensures full { MAX_BUFFERED ≤ length self.new.buffered → may_write self.new ≡ false }
+        ensures bound { self.new.bound ≡ self.old.bound }
+        ensures some { 0 < self.new.bound }
+        ensures full { self.new.bound ≤ length self.new.buffered → may_write self.new ≡ false }
         ensures broken { self.old.is_broken ≡ true → self.new ≡ self.old }
         ensures whole { StaysWritable self.old self.new }
     {
-        if self.count() >= MAX_BUFFERED || count >= MAX_BUFFERED {
+        if self.count() >= self.bound || count >= self.bound {
             self.write_gathered();
         }
     }
 
-    /// Takes these bytes; all of them if they are fewer than 65,536. They are buffered, at most 131,072 in all. A
-    /// longer text, or one without memory, is written at once behind the others, as far as the writer takes it.
+    /// Takes these bytes; all of them if they are fewer than the bound. They are buffered, at most twice the bound in all.
+    /// A longer text, or one without memory, is written at once behind the others, as far as the writer takes it.
     ///
-    /// `WouldBlock`: nothing is taken, since the writer takes no more for now and 65,536 bytes are buffered or the
-    /// text isn't buffered. Any other error, or 0 for a text that isn't empty: a write has failed, and nothing is
+    /// `WouldBlock`: nothing is taken, since the writer takes no more for now and as many bytes as the bound are buffered
+    /// or the text isn't buffered. Any other error, or 0 for a text that isn't empty: a write has failed, and nothing is
     /// taken any more.
     pub fn write(&mut self, bytes: &[u8]) -> io::Result<usize>
         ensures bound { WritesAtMost result bytes.now }
@@ -292,10 +314,10 @@ impl<W: Write> WriteBuffer<W> {
         if self.is_broken {
             return Err(broken());
         }
-        if self.count() >= MAX_BUFFERED {
+        if self.count() >= self.bound {
             return Err(paused());
         }
-        if bytes.len() >= MAX_BUFFERED {
+        if bytes.len() >= self.bound {
             return self.write_long(bytes);
         }
         match self.append(bytes) {
@@ -307,6 +329,7 @@ impl<W: Write> WriteBuffer<W> {
     fn write_long(&mut self, bytes: &[u8]) -> io::Result<usize>
         ensures bound { WritesAtMost result bytes.now }
         ensures accepts { Accepts self.old self.new bytes.now result }
+        ensures bound_stays { self.new.bound ≡ self.old.bound }
         ensures limit { length self.new.buffered ≤ length self.old.buffered }
         ensures whole { IfOk result (λ n. n ≡ length bytes.now → self.new.is_writable ≡ true) }
     {

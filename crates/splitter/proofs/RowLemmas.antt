@@ -8,10 +8,10 @@ use Rattle.command_table.specs.Table.{Row, rows}
 use Rattle.command_table.specs.declared.Kind.{Kind}
 use Rattle.command_table.specs.declared.Kind.TheVariants.{Ping, Echo, Quit, One, SplitGet, SplitSet, SplitSum}
 
--- the key of a command that is split is its second word, the key of one that stays whole is any but its first, and its least
+-- PING has a name; the key of a command that is split is its second word, the key of one that stays whole is any but its first, and its least
 -- number of words holds its key; the names of MGET and MSET have three bytes at least
 abbrev good_by : Kind → Row → Bool
-good_by Ping r = true
+good_by Ping r = ltb 0 r.least
 good_by Echo r = r.least == 2
 good_by Quit r = true
 good_by One r = ltb 0 r.key_at && ltb r.key_at r.least
@@ -29,6 +29,9 @@ good_row r (k, within, is) = subst (λ (z : Row). good_by z.kind z ≡ true) is 
 
 good_kind : (k : Kind) (r : Row) → Contains rows r → r.kind ≡ k → good_by k r ≡ true
 good_kind k r h e = subst (λ (z : Kind). good_by z r ≡ true) e (good_row r h)
+
+pub ping_row : (r : Row) → Contains rows r → r.kind ≡ Ping → 0 < r.least
+ping_row r h e = ltb-true 0 r.least (good_kind Ping r h e)
 
 pub echo_row : (r : Row) → Contains rows r → r.kind ≡ Echo → r.least ≡ 2
 echo_row r h e = eqb-true r.least 2 (good_kind Echo r h e)

@@ -5,7 +5,6 @@ use Rattle.resp_core.specs.Command.{word}
 use Rattle.command_table.specs.Entry.{row_of}
 use Rattle.command_table.specs.Table.{rows, row_named}
 use Rattle.command_table.specs.declared.Entry.{Entry}
-use Rattle.command_table.specs.declared.Kind.TheVariants.{One}
 use Rattle.splitter.specs.Split.{Words}
 use Rattle.splitter.specs.Part.{part_of}
 use Rattle.splitter.specs.Plan.{Plan, here, leave, parts, takes}
@@ -26,9 +25,8 @@ abbrev pub planned_in : Planned → Plan
 planned_in (planned.Whole key bytes) = parts Same (part_of key.now bytes ∷ [])
 planned_in (planned.Other plan) = plan_in plan
 
--- the table has the command of these words in this row, by which it goes whole to one host
-pub record IsWholeBy (entry : Entry) (words : Words) : Type 0 where
+-- the table has the command of these words in this row, and a command of the row may have so many
+pub record IsTakenBy (entry : Entry) (words : Words) : Type 0 where
   pub row : row_named (word words 0) ≡ Some (row_of entry)
   pub known : Contains rows (row_of entry)
-  pub kind : entry.kind ≡ One
   pub takes : takes entry.kind entry.least (length words) ≡ true

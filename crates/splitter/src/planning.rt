@@ -1,12 +1,13 @@
-ghost use Rattle.std.specs.Prelude.{◌≡◌, IfOk, IfErr, IfSome, Contains, true, length, map};
+ghost use Rattle.std.specs.Prelude.{◌≡◌, IfOk, IfErr, IfSome, Contains, true, codes, length, map};
 ghost use Rattle.std.specs.Str.{str_to_ascii_uppercase};
+ghost use Rattle.resp_core.specs.Tree.{simple};
 ghost use Rattle.resp_core.specs.Value.{tree_of};
 ghost use Rattle.resp_core.specs.Command.{are_words, command_of, payload_of, word, IsArrayOf};
 ghost use Rattle.command_table.specs.Entry.{row_of};
 ghost use Rattle.command_table.specs.Table.{rows, row_named};
 ghost use Rattle.splitter.specs.Request.{read, request_of};
-ghost use Rattle.splitter.specs.Plan.{plan_of, plan_by, plan_by_row, takes};
-ghost use Rattle.splitter.specs.Planned.{IsWholeBy, plan_in, planned_in};
+ghost use Rattle.splitter.specs.Plan.{here, plan_of, plan_by, plan_by_row, takes};
+ghost use Rattle.splitter.specs.Planned.{IsTakenBy, plan_in, planned_in};
 
 use crate::error::SplitError;
 use crate::local::{unsupported, wrong_number};
@@ -112,26 +113,37 @@ fn plan_spelled<'a>(
         (λ p. planned_in p ≡ plan_of (read (command_of command.now))) }
     ensures err { IfErr result (λ e. e ≡ SplitError.NoMemory) }
 {
-    if let Some(entry) = whole_entry(command) {
-        return Ok(Planned::Whole {
-            key: command.word(entry.key_at),
-            text: command.text().clone()?,
-        });
+    if let Some(entry) = taken_entry(command) {
+        match entry.kind {
+            Kind::One => return Ok(Planned::Whole {
+                key: command.word(entry.key_at),
+                text: command.text().clone()?,
+            }),
+            Kind::Ping => return Ok(Planned::Other(pong())),
+            _ => {}
+        }
     }
     let value = command.value(alloc)?;
     let planned = plan_value(alloc, texts, &value, command.text().len() as u64)?;
     Ok(Planned::Other(owned(alloc, planned)?))
 }
 
-fn whole_entry(command: &SpelledCommand) -> Option<Entry>
-    ensures { IfSome result (λ entry. IsWholeBy entry command.now) }
+fn taken_entry(command: &SpelledCommand) -> Option<Entry>
+    ensures { IfSome result (λ entry. IsTakenBy entry command.now) }
 {
     let count = command.count();
     let entry = look(command.word(0))?;
-    match entry.kind {
-        Kind::One if takes(entry, count) => Some(entry),
-        _ => None,
+    if takes(entry, count) {
+        Some(entry)
+    } else {
+        None
     }
+}
+
+fn pong() -> Plan
+    ensures { plan_in result ≡ here Local.Pong (simple (codes "PONG")) }
+{
+    Plan::Here(Local::Pong, Value::Simple(Bytes::from_static(b"PONG")))
 }
 
 fn plan_command<'a>(
@@ -193,10 +205,7 @@ fn plan_known<'a>(
         words,
     } = *command;
     let (how, list) = match entry.kind {
-        Kind::Ping => return Ok(Planned::Other(Plan::Here(
-            Local::Pong,
-            Value::Simple(Bytes::from_static(b"PONG")),
-        ))),
+        Kind::Ping => return Ok(Planned::Other(pong())),
         Kind::Echo => return Ok(Planned::Other(Plan::Here(
             Local::Echoed,
             Value::Bulk(words.word(1).share()?),

@@ -212,8 +212,7 @@ fn cut_clients_leave_others(rt: HostRuntime) -> Result<(), Fail> {
     Ok(())
 }
 
-// A client asks 1,030 times and takes nothing. While the host has no link, 1,024 commands are accepted and one is held
-// back. With a link those are answered, and no more is read. Once the client takes bytes again, nothing is lost.
+// A client asks 1,030 times and takes nothing: 1,024 are accepted, and no more is read till it takes bytes.
 const NEVER_READS: &[Act] = &[
     Act::IsShut(true),
     Act::Opens(Feed::Then(b"", GET, 1_030), Ends::FREE),

@@ -143,8 +143,7 @@ fn a_free_gate_answers_at_once(rt: HostRuntime) -> Result<(), Fail> {
     check(&rt, (0, 100), acts, &[(0, 4), (0, 5)])
 }
 
-// The outcomes of a seat's first turn, and of another pass's turns: while the seat is inside, once it has left, once it
-// has made all its turns inside, and once it was dropped inside.
+// The outcomes of a seat's turns and another pass's: inside, outside, after all turns, and dropped inside.
 fn outcomes_beside<R: Wait>(
     rt: &R,
     gate: &Gate<RunningTotal>,

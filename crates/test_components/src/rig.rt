@@ -5,9 +5,10 @@ use crate::fake_devices::{Feed, Reader, Source, Taken, Writer};
 use crate::journal::{Deed, last_deed};
 use crate::stage::{Stage, Visitor};
 use crate::turns::{Ration, Rationed};
+use close_behind::CloseBehind;
 use ketama::Ring;
 use proxy_core::{Core, Event, Refusal, Settings};
-use proxy_engines::{ClientEngine, EngineError, Faulty, HostEngine, Progress, Tallied};
+use proxy_engines::{ClientEnds, ClientEngine, EngineError, Faulty, HostEngine, Progress, Tallied};
 use std::alloc::Global;
 use std::sync::Wait;
 use stub_server::{Act as Serves, Stub, StubLink, StubReader, StubWriter};
@@ -219,9 +220,12 @@ impl<'a> Rig<'a> {
             taken: &visitor.took,
             most: ends.writing,
         };
-        let reader = Faulty::new(Tallied::new(reader), ends.reads);
-        let writer = Faulty::new(Tallied::new(writer), ends.writes);
-        match ClientEngine::open(rt, rt.alloc(), &mut self.turns, reader, writer) {
+        let ends = ClientEnds {
+            reader: Faulty::new(Tallied::new(reader), ends.reads),
+            writer: Faulty::new(Tallied::new(writer), ends.writes),
+            behind: CloseBehind::none(),
+        };
+        match ClientEngine::open(rt, rt.alloc(), &mut self.turns, ends) {
             Ok(client) => self.add(Engine::Client(client)),
             Err(error) => Err(error),
         }

@@ -1,7 +1,8 @@
 //! Works in several threads: two clients that meet.
 use crate::core_at_gate::core;
+use close_behind::CloseBehind;
 use proxy_core::Core;
-use proxy_engines::{ClientEngine, ClientWork, EngineError, Tallied, run_all};
+use proxy_engines::{ClientEnds, ClientEngine, ClientWork, EngineError, Tallied, run_all};
 use std::alloc::Global;
 use std::io::{ErrorKind, Read, Write};
 use std::sync::Wait;
@@ -117,7 +118,12 @@ fn client<'a, R: Wait>(
         then,
     });
     let writer = Tallied::new(Counter { point });
-    match ClientEngine::open(rt, alloc, &mut turns, reader, writer) {
+    let ends = ClientEnds {
+        reader,
+        writer,
+        behind: CloseBehind::none(),
+    };
+    match ClientEngine::open(rt, alloc, &mut turns, ends) {
         Ok(engine) => Ok(ClientWork { engine, turns }),
         Err(_) => Err(Fail::from("no memory for a client")),
     }

@@ -1,7 +1,7 @@
 //! Examples as data: reads a script from standard input, and prints beside each line what a part of the proxy answers.
 //!
-//! A row's subject is a part, each on its own. `test_rows` says how a script is written. It stands on the parts below the
-//! core, on `proxy_config`, `stub_server` and `test_rows`. Begin with `subject.rt`.
+//! `test_rows` says how a script is written. It stands on the parts below the core, on `proxy_config`, `stub_server`
+//! and `test_rows`. Begin with `subject.rt`.
 #![tactic(auto)]
 
 mod ejection;

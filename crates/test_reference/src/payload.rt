@@ -1,7 +1,4 @@
 //! The payload bytes of a history, and whether it has room for one more step.
-//!
-//! A step's payload is the text of its event's value or request, and the text of its answer. It is counted in 64 bits,
-//! of which the greatest number stands for any more.
 ghost use Rattle.std.specs.Prelude.{◌≡◌};
 ghost use Rattle.resp_core.specs.Stream.{told_offset};
 ghost use Rattle.proxy_history.specs.Payload.{length_of_request, length_of_event, length_of_answer, payload_of, payload, has_room};

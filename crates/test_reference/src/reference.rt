@@ -86,8 +86,7 @@ impl Reference {
 
     /// Takes one event of the pass `pass`, and adds its step with the answer that a legal history has there.
     ///
-    /// Refused by the first cause of the event's own that holds (1003 to 1010, 1012, 1013), else with 1002 where the
-    /// journal would be full. Refused 1001 where memory was refused. The event comes back, and nothing has changed.
+    /// Refused by its first own cause that holds, else 1002 for a full journal; 1001 without memory. Nothing has changed then.
     pub fn turn(&mut self, pass: u64, event: Event) -> Result<(), (Refusal, Event)>
         ensures step { OnOk result ((s : TurnStep) × IsStep self.old self.new pass event s) }
         ensures event { IfErr result (λ r. r.1 ≡ event) }

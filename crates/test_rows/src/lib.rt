@@ -1,8 +1,8 @@
 //! What programs of rows share: a script is played on the subjects of its rows.
 //!
-//! A row is a line `row NAME SUBJECT ARGUMENTS..` and the lines below it, one action each. Every line is printed as
-//! it stands, and after an action ` => ` and its answer. Blank lines and lines that begin with `#` are copied. It
-//! stands on `resp_core`, `splitter`, `ketama` and `ejector`. Begin with `script.rt`, then `subject.rt`.
+//! A row is a line `row NAME SUBJECT ARGUMENTS..` and the actions below it. Every line is printed as it stands, an
+//! action with ` => ` and its answer. It stands on `resp_core`, `splitter`, `ketama` and `ejector`. Begin with
+//! `script.rt`, then `subject.rt`.
 #![tactic(auto)]
 
 mod again;

@@ -6,9 +6,7 @@ use std::alloc::Global;
 use test_rows::again;
 use test_rows::shown::shown;
 
-/// Takes an event, again if it found no memory, and returns the answer or the refusal in words.
-///
-/// An answer must have added one step of this pass, and a refusal none; otherwise the words say so.
+/// Takes an event, again if it found no memory, and returns the answer or the refusal in words, or that steps are wrong.
 pub(crate) fn outcome<P: Proxy>(
     alloc: Global,
     proxy: &mut P,

@@ -85,8 +85,8 @@ fn epochs(core: &Core) -> [u64; 3] {
     }
 }
 
-/// Makes random events on fresh proxies with random settings, for each seed from 1 on; the words are the numbers of
-/// seeds and of events. Returns the number of answered events, or the first whose answers differ.
+/// Makes random events for each seed; the words are the numbers of both. Returns how many were answered, or the first
+/// whose answers differ.
 pub(crate) fn run_each(alloc: Global, words: &str) -> Result<String> {
     let (seeds, events) = first_word(words);
     let (seeds, events): (u64, u64) = (number(seeds)?, number(events)?);

@@ -4,8 +4,10 @@ ghost use Rattle.http_server.specs.Response.{IsBlank};
 use bytes::{Buf, Bytes};
 use http::Request;
 use http_server::{Response, Service};
+use limits::MAX_HOSTS;
 use proxy_histogram::Histogram;
-use proxy_pages::{About, Admin, Look, Snapshot};
+use proxy_pages::{About, Admin, LineHosts, Look, MAX_LINES_SHOWN, Snapshot};
+use proxy_serve_core::HostFaults;
 use proxy_stats::Counts;
 use std::alloc::Global;
 use std::str;
@@ -47,6 +49,9 @@ fn snapshot() -> Snapshot {
         draining_count: 0,
         connections: 0,
         closed: 0,
+        faults: [HostFaults::NONE; MAX_HOSTS],
+        lines: 1,
+        line_hosts: [LineHosts::NONE; MAX_LINES_SHOWN],
         durations,
         is_ready: true,
         is_ending: false,

@@ -1,4 +1,4 @@
-//! How a worker closes what is left at its end.
+//! How a worker closes clients that read nothing, and what is left at its end.
 
 use super::Worker;
 use limits::MAX_SOCKETS;
@@ -8,15 +8,15 @@ use std::sync::Wait;
 impl Worker<'_> {
     // Connections that are cut short are counted as closed.
     pub(super) fn close_clients<R: Wait + Eprint>(&mut self, rt: &R) {
-        let server = self.generation.server();
+        let line = self.generation.line();
         let mut cut = 0u32;
         for key in 0..self.connections.capacity() {
             if self.close_client(key) {
                 cut = cut.saturating_add(1);
             }
         }
-        if cut > 0 && server.runs() {
-            let tag = server.log().tag(Level::Warning);
+        if cut > 0 && line.runs() {
+            let tag = line.log().tag(Level::Warning);
             let number = self.generation.number();
             let _ = eprintln!(rt;
                 "{tag}redproxy: generation {number} is cut short, {cut} connections are closed"
@@ -32,23 +32,55 @@ impl Worker<'_> {
             return false;
         };
         if is_cut {
-            self.generation.server().count_closed();
+            self.generation.line().count_closed();
         }
         is_cut
     }
 
+    // While too many bytes wait for all sockets together, closes its stalled clients, those for which most wait first.
+    pub(super) fn close_stalled<R: Eprint>(&mut self, rt: &R) {
+        let line = self.generation.line();
+        if !line.has_too_much_waiting() {
+            return;
+        }
+        let waiting = line.waiting();
+        let mut count = 0u32;
+        for _ in 0..self.connections.capacity() {
+            let Some(key) = self.find_stalled() else {
+                break;
+            };
+            self.connections.break_off(key);
+            count = count.saturating_add(1);
+        }
+        if count > 0 {
+            let tag = line.log().tag(Level::Warning);
+            let _ = eprintln!(rt;
+                "{tag}redproxy: {waiting} bytes wait for clients, {count} that read nothing are closed"
+            );
+        }
+    }
+
+    // Its client to be closed next, while too many bytes wait.
+    fn find_stalled(&self) -> Option<usize> {
+        if self.generation.line().has_too_much_waiting() {
+            self.connections.most_stalled(self.now)
+        } else {
+            None
+        }
+    }
+
     // Closes the sockets in the queue: once the server ends no generation takes them.
     fn close_carried<R: Wait>(&mut self, rt: &R) {
-        let server = self.generation.server();
+        let line = self.generation.line();
         for _ in 0..MAX_SOCKETS {
-            if server.runs() {
+            if line.runs() {
                 return;
             }
-            let Some(carried) = server.take_carried(rt, self.index()) else {
+            let Some(carried) = line.take_carried(rt, self.index()) else {
                 return;
             };
-            self.connections.close_carried(carried);
-            server.count_closed();
+            drop(carried);
+            line.count_closed();
         }
     }
 }

@@ -1,7 +1,7 @@
 //! How a worker opens the sockets in its queue.
 ghost use Rattle.slab.specs.Slab.{HasRoomFor};
 
-use super::{MAX_EVENTS, Remaining, Worker};
+use super::{MAX_OPENED, Remaining, Worker};
 use journal_room::OpenConnection;
 use mio::Token;
 use open_sockets::AdmittedStream;
@@ -53,8 +53,8 @@ impl Worker<'_> {
         if self.generation.worker_phase() != Phase::Serving {
             return Ok(());
         }
-        for _ in 0..MAX_EVENTS {
-            if !self.generation.server().has_waiting(rt, self.index()) {
+        for _ in 0..MAX_OPENED {
+            if !self.generation.line().has_waiting(rt, self.index()) {
                 return Ok(());
             }
             let Ok(connection) = self.generation.room.count_opened() else {
@@ -75,15 +75,15 @@ impl Worker<'_> {
         rt: &R,
         connection: OpenConnection,
     ) -> Result<Remaining, Stop> {
-        let server = self.generation.server();
+        let line = self.generation.line();
         if !self.connections.reserve_slot() {
             self.count_refusal()?;
             return Ok(Remaining::Nothing);
         }
-        if let Some(carried) = server.take_carried(rt, self.index()) {
+        if let Some(carried) = line.take_carried(rt, self.index()) {
             return self.open_carried(rt, carried, connection);
         }
-        match server.pop(rt, self.index()) {
+        match line.pop(rt, self.index()) {
             Some(stream) => self.open(rt, stream, connection),
             None => Ok(Remaining::Nothing),
         }
@@ -120,14 +120,14 @@ impl Worker<'_> {
         error: StepError,
         carried: CarriedSocket,
     ) -> Result<Remaining, Stop> {
-        let server = self.generation.server();
+        let line = self.generation.line();
         self.handle_open_error(error)?;
         if error.ends_one() {
-            self.connections.close_carried(carried);
-            server.count_closed();
+            drop(carried);
+            line.count_closed();
             return Ok(Remaining::Work);
         }
-        server.carry_back(rt, self.index(), carried);
+        line.carry_back(rt, self.index(), carried);
         Ok(Remaining::Nothing)
     }
 

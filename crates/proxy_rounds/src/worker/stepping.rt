@@ -5,7 +5,7 @@ ghost use Rattle.proxy_connections.specs.WorkerConnections.{LetsGo, MayCarry};
 use super::{ALL_CLIENTS_MS, Remaining, Worker};
 use proxy_connections::{ClientResult, HostResult, HostStepped, StepError, Stepped};
 use proxy_serve_core::KeyRange;
-use proxy_server::{Level, Stop};
+use proxy_server::Stop;
 use std::net::{Net, SocketAddr};
 use std::sync::Wait;
 
@@ -44,7 +44,7 @@ impl Worker<'_> {
         Ok(Remaining::work_if(may_go))
     }
 
-    fn handle_host<R: Eprint>(
+    fn handle_host<R: Wait + Eprint>(
         &mut self,
         rt: &R,
         address: SocketAddr,
@@ -52,9 +52,8 @@ impl Worker<'_> {
     ) -> Result<(), Stop> {
         match stepped {
             Ok(HostStepped::Done) => Ok(()),
-            Ok(HostStepped::Unreachable) => {
-                let tag = self.generation.server().log().tag(Level::Warning);
-                let _ = eprintln!(rt; "{tag}redproxy: host {address} can't be reached");
+            Ok(HostStepped::Faulty(lost_link)) => {
+                self.handle_fault(rt, address, lost_link);
                 Ok(())
             }
             Err(error) => self.handle_step_error(error),
@@ -77,7 +76,7 @@ impl Worker<'_> {
         rt: &R,
     ) -> Result<Remaining, Stop> {
         self.is_held_back = false;
-        self.find_ready();
+        self.find_ready(rt);
         let mut remaining = Remaining::Nothing;
         for range in KeyRange::round_from(self.next) {
             if self.is_held_back {
@@ -90,11 +89,12 @@ impl Worker<'_> {
 
     // Makes clients ready to which replies came, and all clients each `ALL_CLIENTS_MS`: some things come by the clock alone, and no
     // client may depend on a notice.
-    fn find_ready(&mut self) {
+    fn find_ready<R: Eprint>(&mut self, rt: &R) {
         self.connections.hear(self.generation.notices());
         if self.now.saturating_sub(self.looked_at) >= ALL_CLIENTS_MS {
             self.looked_at = self.now;
             self.connections.make_all_ready();
+            self.close_stalled(rt);
         }
     }
 
@@ -153,8 +153,8 @@ impl Worker<'_> {
     fn carry_over<R: Wait>(&mut self, rt: &R, key: usize) -> Result<Remaining, Stop>
         requires { MayCarry self.old.connections.clients key }
     {
-        let server = self.generation.server();
-        if !server.reserve_to_carry(rt, self.index()) {
+        let line = self.generation.line();
+        if !line.reserve_to_carry(rt, self.index()) {
             if let Some(error) = self.connections.count_no_memory(key) {
                 self.handle_step_error(error)?;
             }
@@ -164,11 +164,14 @@ impl Worker<'_> {
             .generation
             .round(self.poll.registry(), self.mode, self.now);
         let carried = self.connections.carry(round, key);
-        server.carry(rt, self.index(), carried);
+        line.carry(rt, self.index(), carried);
         Ok(Remaining::Nothing)
     }
 
     fn step_client<R: Wait>(&mut self, rt: &R, key: usize) -> Result<Remaining, Stop> {
+        if self.mode.drains {
+            self.connections.drain(key);
+        }
         let round = self
             .generation
             .round(self.poll.registry(), self.mode, self.now);
@@ -182,7 +185,7 @@ impl Worker<'_> {
             return Ok(Remaining::Nothing);
         };
         if has_closed {
-            self.generation.server().count_closed();
+            self.generation.line().count_closed();
         }
         self.handle_stepped(rt, key, stepped)
     }

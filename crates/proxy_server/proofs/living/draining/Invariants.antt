@@ -1,7 +1,7 @@
 use Rattle.std.proofs.Common.{List, map, take, filter}
 use Rattle.proxy_generations.specs.Events.{Event}
 use Rattle.proxy_generations.specs.GenerationsState.{Settings, Stands}
-use Rattle.proxy_server.specs.declared.server.Inherited.{Inherited}
+use Rattle.proxy_server.specs.declared.line.Inherited.{Inherited}
 use Rattle.proxy_server.specs.Living.{is_draining}
 use Rattle.proxy_server.specs.LookSums.{IsLookSum}
 use Rattle.proxy_server.proofs.living.draining.Given as goal

@@ -2,7 +2,7 @@ use Rattle.std.proofs.Common.{◌≡◌, ◌+◌, List, sum_by, take, filter}
 use Rattle.proxy_generations.specs.Events.{Event}
 use Rattle.proxy_generations.specs.GenerationsState.{Settings, Stands}
 use Rattle.proxy_stats.specs.Sums.{capped_sum}
-use Rattle.proxy_server.specs.declared.server.Inherited.{Inherited}
+use Rattle.proxy_server.specs.declared.line.Inherited.{Inherited}
 use Rattle.proxy_server.specs.Living.{is_beside}
 use Rattle.proxy_server.proofs.living.steps_beside.Given as goal
 

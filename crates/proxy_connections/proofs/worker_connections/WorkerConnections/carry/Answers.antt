@@ -1,9 +1,10 @@
 use Rattle.std.proofs.Common.{sym}
-use Rattle.proxy_connections.proofs.WorkerConnectionLemmas.{carries_its_socket, may_go_over, serves_removed}
+use Rattle.proxy_connections.proofs.WorkerConnectionLemmas.{are_of_pass, carries_its_socket, may_go_over, serves_removed}
 use Rattle.proxy_connections.proofs.worker_connections.WorkerConnections.carry.Goals as goal
 
 pub carry-requires-clause-carries : goal.carry-requires-clause-carries
-carry-requires-clause-carries c = carries_its_socket _ _ _ c.in-Some.client _ (sym c.in-Some.ensures.value) c.self.invariant
+carry-requires-clause-carries c =
+    carries_its_socket _ _ _ c.in-Some.client _ (sym c.in-Some.ensures.value) (are_of_pass c.self.inside.turns.turns c.self.inside.turns.is_legal) c.self.invariant
 
 pub carry-requires-clause-may : goal.carry-requires-clause-may
 carry-requires-clause-may c =

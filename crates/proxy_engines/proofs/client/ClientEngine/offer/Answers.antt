@@ -3,7 +3,7 @@ use Rattle.proxy_engines.proofs.OwnHistoryLemmas.{keeps_same}
 use Rattle.proxy_engines.specs.Client.{Client}
 use Rattle.proxy_engines.specs.declared.client.Progress.{Progress}
 use Rattle.std.proofs.Common.{◌≡◌, ◌∙◌, IfOk, Some, refl, sym, ap, inl, inr, rules}
-use Rattle.proxy_engines.proofs.ClientMoves.{arrived_on, arrived_last, unanswered_goes}
+use Rattle.proxy_engines.proofs.ClientMoves.{arrived_closing, arrived_on, arrived_last, unanswered_goes}
 use Rattle.proxy_history.specs.declared.event.Event.{Event}
 use Rattle.proxy_engines.proofs.RefusalLemmas.{expected, is_crowded, told_ok, told_turn, told_due}
 use Rattle.proxy_engines.proofs.client.ClientEngine.offer.Goals as goal
@@ -20,14 +20,26 @@ returns-then-is_last-clause-moves g c =
       due = tt;
     }
 
-pub returns-else-is_last-clause-moves : goal.returns-else-is_last-clause-moves
-returns-else-is_last-clause-moves g c =
+pub returns-then-closes-clause-moves : goal.returns-then-closes-clause-moves
+returns-then-closes-clause-moves g c =
+    record {
+      turns = c.arrive.ensures.turns;
+      goes = let now = c.in-Ok.ensures.answered in
+          rw (c.stop_behind.ensures, c.take.ensures.after, c.saturating_add-self-inside.ensures, now.1.steps, ← c.self.view_is)
+          (arrived_closing _ c.in-Some.request (g.T.Turns.facts c.args.turns.now).pass _ now.0 (rw (← c.self.view_is) at c.requires.stage) (sym c.take.ensures.value ∙ c.in-Some.is) (rw (← c.self.view_is) at c.requires.last) (rw now.1.steps at now.1.few)
+          (sym c.closes-closes.ensures ∙ c.if-closes.true));
+      unfailed = rw (c.stop_behind.ensures, ← c.self.view_is) (refl, refl);
+      due = tt;
+    }
+
+pub returns-else-closes-clause-moves : goal.returns-else-closes-clause-moves
+returns-else-closes-clause-moves g c =
     record {
       turns = c.arrive.ensures.turns;
       goes = let now = c.in-Ok.ensures.answered in
           rw (c.take.ensures.after, c.saturating_add-self-inside.ensures, now.1.steps, ← c.self.view_is)
           (arrived_on _ c.in-Some.request (g.T.Turns.facts c.args.turns.now).pass _ now.0 (rw (← c.self.view_is) at c.requires.stage) (sym c.take.ensures.value ∙ c.in-Some.is) (rw (← c.self.view_is) at c.requires.last) (rw now.1.steps at now.1.few)
-          (sym c.in-Ok.ensures.last ∙ c.if-is_last.false));
+          (sym c.in-Ok.ensures.last ∙ c.if-is_last.false) (sym c.closes-closes.ensures ∙ c.if-closes.false));
       unfailed = rw (← c.self.view_is) (refl, refl);
       due = tt;
     }
@@ -85,8 +97,8 @@ returns-then-is_last-clause-offers g c =
       err = tt;
     }
 
-pub returns-else-is_last-clause-offers : goal.returns-else-is_last-clause-offers
-returns-else-is_last-clause-offers g c =
+pub returns-else-closes-clause-offers : goal.returns-else-closes-clause-offers
+returns-else-closes-clause-offers g c =
     record {
       live = rw (ap (λ (e : Client). e.stage) c.self.view_is ∙ c.requires.stage) tt;
       ends = rw (← c.self.view_is) (refl, refl);

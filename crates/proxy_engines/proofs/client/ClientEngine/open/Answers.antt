@@ -8,7 +8,7 @@ use Rattle.proxy_engines.proofs.client.ClientEngine.open.Goals as goal
 pub returns-in-Ok-open-clause-carries : goal.returns-in-Ok-open-clause-carries
 returns-in-Ok-open-clause-carries g c =
     rw c.in-Ok-open.ensures.answered
-    (opened_carries c.in-Ok-open.conn (g.T.Turns.facts c.args.turns.now).pass c.in-Ok.inbox _ None _ [] c.in-Ok-open.ensures.new c.new-in-Ok-open.ensures.pending c.in-Ok.ensures.most (behind_none c.in-Ok.inbox [] [] c.in-Ok.ensures.holds))
+    (opened_carries c.in-Ok-open.conn (g.T.Turns.facts c.args.turns.now).pass c.args.ends.behind c.in-Ok.inbox _ None _ [] c.in-Ok-open.ensures.new c.new-in-Ok-open.ensures.pending c.in-Ok.ensures.most (behind_none c.in-Ok.inbox [] [] c.in-Ok.ensures.holds))
 
 pub returns-in-Err-open-clause-turns : goal.returns-in-Err-open-clause-turns
 returns-in-Err-open-clause-turns g c = c.open.ensures.turns
@@ -63,4 +63,5 @@ returns-in-Ok-open-clause-opened g c =
       counts_are = (search rules, search rules);
       stage = refl;
       reads = refl;
+      behind_is = refl;
     }

@@ -8,8 +8,8 @@ use Rattle.proxy_engines.proofs.client.ClientEngine.open_with.Goals as goal
 
 pub returns-in-Ok-clause-carries : goal.returns-in-Ok-clause-carries
 returns-in-Ok-clause-carries g c =
-    λ b rest. rw (c.in-Ok.ensures.answered, c.with-inbox.ensures.next)
-    (opened_carries c.in-Ok.conn (g.T.Turns.facts c.args.turns.now).pass c.with-inbox.result.0 _ c.args.rest.next _ b c.in-Ok.ensures.new c.new.ensures.pending
+    λ b rest. rw (c.in-Ok.ensures.answered, c.with-inbox.ensures.next, c.with-inbox.ensures.behind)
+    (opened_carries c.in-Ok.conn (g.T.Turns.facts c.args.turns.now).pass c.args.rest.behind c.with-inbox.result.0 _ c.args.rest.next _ b c.in-Ok.ensures.new c.new.ensures.pending
     (ap (λ (z : ReaderState). z.most) c.with-inbox.ensures.values ∙ rest.most_is)
     (with-behind c.with-inbox.result.0 c.args.rest b (waiting_requests c.args.rest.next) c.with-inbox.ensures.fresh c.with-inbox.ensures.values rest.holds))
 
@@ -33,4 +33,5 @@ returns-in-Ok-clause-opened g c =
       counts_are = (search rules, search rules);
       stage = refl;
       reads = refl;
+      behind_is = c.with-inbox.ensures.behind;
     }

@@ -2,11 +2,12 @@ use Rattle.proxy_engines.proofs.AnswerLemmas.{any_ok}
 use Rattle.proxy_engines.proofs.OwnHistoryLemmas.{keeps_then}
 use Rattle.std.proofs.lemmas.Result.{IfOk-from_err, err_from_is_err_and}
 use Rattle.proxy_engines.specs.declared.client.Progress.{Progress}
-use Rattle.std.proofs.Common.{Ok, rules, ◌≡◌, ◌∙◌, None, [], ap, append-nil, refl, sym, true, false}
+use Rattle.std.proofs.Common.{Ok, Some, rules, ◌≡◌, ◌∙◌, None, [], ap, append-nil, refl, sym, true, false}
 use Rattle.proxy_engines.specs.Moves.{told_by_turn}
 use Rattle.proxy_engines.specs.Host.{HostOutboxState}
 use Rattle.proxy_engines.specs.HostStep.{HostState}
 use Rattle.proxy_engines.specs.Faults.{IsLate}
+use Rattle.proxy_engines.specs.declared.link_fault.LinkFault.{LinkFault}
 use Rattle.proxy_history.specs.declared.event.Kind.{Kind}
 use Rattle.proxy_engines.proofs.HostMoves.{some_told}
 use Rattle.proxy_engines.proofs.HostLemmas.{empty_is, works_told, works_on, needs_alone, told_needs, told_recorded, told_in_time, told_moved, told_link}
@@ -100,10 +101,12 @@ pub returns-then-is_late-clause-moves : goal.returns-then-is_late-clause-moves
 returns-then-is_late-clause-moves g c =
     record {
       turns = keeps_then _ _ _ c.take_one.ensures.moves.turns c.tell_fault.ensures.turns;
-      works = let went = some_told _ (told_by_turn c.take_one.result) c.take_one.ensures.moves.goes in
-          let late : IsLate c.take_one.new.self.outbox c.args.moment = rw (← c.self.view_is) (c.is_late.ensures.0 c.if-is_late.true) in
-          works_told _ _ c.take_one.new.self c.tell_fault.new.self Kind.Late None _ _ _ c.args.moment went.0 c.tell_fault.result went.1
-          c.tell_fault.ensures.tells (rw (c.requires.none, c.take_one.ensures.takes.link) (refl, refl, late));
+      works = let last : HostState = record { outbox = c.self.inside.outbox; link = c.self.inside.link; fault = c.self.inside.fault; last_fault = Some LinkFault.Late } in
+          let none : c.self.inside.link ≡ None = ap (λ (h : HostState). h.link) c.self.view_is ∙ c.take_one.ensures.takes.link in
+          let went = rw (← c.self.view_is) at (some_told _ (told_by_turn c.take_one.result) c.take_one.ensures.moves.goes) in
+          let late : IsLate c.self.inside.outbox c.args.moment = c.is_late.ensures.0 c.if-is_late.true in
+          works_told _ _ last c.tell_fault.new.self Kind.Late None _ _ _ c.args.moment went.0 c.tell_fault.result went.1
+          c.tell_fault.ensures.tells (rw (c.requires.none, none) (refl, refl, late));
       due = due_cut _ _ c.tell_fault.result tt (rw c.take_one.ensures.moves.turns.setting_is at c.tell_fault.ensures.due);
       tells = record {
         recorded = told_recorded _ _ _ _ _ _ None c.tell_fault.result c.tell_fault.ensures.tells;
@@ -116,7 +119,9 @@ returns-then-is_late-clause-moves g c =
     }
 
 pub returns-then-is_late-clause-link : goal.returns-then-is_late-clause-link
-returns-then-is_late-clause-link g c = told_link _ _ _ _ _ _ None c.tell_fault.result c.take_one.ensures.takes.link c.tell_fault.ensures.tells
+returns-then-is_late-clause-link g c =
+    let none : c.self.inside.link ≡ None = ap (λ (h : HostState). h.link) c.self.view_is ∙ c.take_one.ensures.takes.link in
+    told_link _ _ _ _ _ _ None c.tell_fault.result none c.tell_fault.ensures.tells
 
 pub returns-in_err-taken-clause-link : goal.returns-in_err-taken-clause-link
 returns-in_err-taken-clause-link g c = c.take_one.ensures.takes.link

@@ -78,7 +78,7 @@ returns-in-Fault g c =
         works = let went = some_told _ (told_by_moves c.step.result) c.step.ensures.moves.goes in
             let cause = unasked_here (g.T.Turns.cause (g.T.Turns.facts c.args.turns.now).setting Refusal.Unasked) (g.T.Turns.facts c.args.turns.now).seen (g.T.Turns.facts c.step.new.turns).seen (g.T.Turns.facts c.tell_fault.new.turns).seen c.args.moment c.step.ensures.moves.turns.begins c.tell_fault.ensures.turns.begins c.in-Fault.kind c.in-Fault.error c.step.new.outbox c.in-Some.link c.step.new.self (rw c.in-Fault.is at c.in_ok-step.ensures.works.fault) in
             rw (← c.self.view_is, c.in-Some.is)
-            (works_told _ _ (record { outbox = c.step.new.outbox; link = Some c.step.new.self; fault = Some c.in-Fault.kind }) c.tell_fault.new.self c.in-Fault.kind c.in-Fault.error _ _ _ c.args.moment went.0 _ went.1
+            (works_told _ _ (record { outbox = c.step.new.outbox; link = Some c.step.new.self; fault = Some c.in-Fault.kind; last_fault = Some c.of.result }) c.tell_fault.new.self c.in-Fault.kind c.in-Fault.error _ _ _ c.args.moment went.0 _ went.1
             c.tell_fault.ensures.tells cause);
         due = let cause = rw c.in-Fault.is at c.in_ok-step.ensures.works.fault in
             due_cut _ _ c.tell_fault.result (cause_due (g.T.Turns.cause (g.T.Turns.facts c.args.turns.now).setting) (g.T.Turns.facts c.tell_fault.new.turns).seen c.tell_fault.new.self.outbox c.in-Fault.kind c.in-Fault.error c.in-Some.link c.step.new.self _ _ cause) (rw c.step.ensures.moves.turns.setting_is at c.tell_fault.ensures.due);

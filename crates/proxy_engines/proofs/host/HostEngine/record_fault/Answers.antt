@@ -7,7 +7,7 @@ returns g c =
     record {
       records = record {
         turns = c.fail.ensures.records.turns;
-        records = rw (c.take.ensures.after, ← c.self.view_is) (record { fails = c.in_ok-fail.ensures.records.fails _; fault = refl });
+        records = rw (c.take.ensures.after, ← c.self.view_is) (record { fails = c.in_ok-fail.ensures.records.fails _; fault = refl; named = rw (← c.self.view_is) at c.requires.named; last = refl });
         kept = tt;
         err = tt;
         due = tt;

@@ -63,7 +63,7 @@ returns-in-Fault g c =
       works = let went = some_told _ (told_by_moves c.send.result) c.send.ensures.moves.goes in
           let device = rw c.in-Fault.is at c.in_ok-send.ensures.sends.fault in
           rw (← c.self.view_is, c.in-Some.is)
-          (works_told _ _ (record { outbox = c.send.new.outbox; link = Some c.send.new.self; fault = Some c.in-Fault.kind }) c.tell_fault.new.self c.in-Fault.kind c.in-Fault.error _ _ _ c.args.moment went.0 _ went.1
+          (works_told _ _ (record { outbox = c.send.new.outbox; link = Some c.send.new.self; fault = Some c.in-Fault.kind; last_fault = Some c.of.result }) c.tell_fault.new.self c.in-Fault.kind c.in-Fault.error _ _ _ c.args.moment went.0 _ went.1
           c.tell_fault.ensures.tells
           (fault_of_device c.in-Some.link c.in-Some.link c.send.new.self _ _ refl refl (Outcome.Fault c.in-Fault.kind c.in-Fault.error) device));
       unread = told_unlinked _ _ _ _ _ _ (λ (j k : LinkState). (k.inbox ≡ j.inbox) × (k.next ≡ j.next)) c.args.self.now.link _ c.tell_fault.result c.tell_fault.ensures.tells;

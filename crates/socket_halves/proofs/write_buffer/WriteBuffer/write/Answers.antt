@@ -4,11 +4,12 @@ use Rattle.socket_halves.specs.WriteBuffer.{GoesOut}
 use Rattle.socket_halves.proofs.WriteBufferLemmas.{Accepts-then, Accepts-append, StaysWritable-append}
 use Rattle.socket_halves.proofs.write_buffer.WriteBuffer.write.Goals as goal
 
-pub returns-then-bytes-ge-MAX_BUFFERED-clause-writes : goal.returns-then-bytes-ge-MAX_BUFFERED-clause-writes
-returns-then-bytes-ge-MAX_BUFFERED-clause-writes g c = record {
+pub returns-then-bytes-self-clause-writes : goal.returns-then-bytes-self-clause-writes
+returns-then-bytes-self-clause-writes g c = record {
   accepts = Accepts-then c.args.self.now c.make_room.new.self c.write_long.new.self c.args.bytes.now c.write_long.result
       c.make_room.ensures.goes_out c.write_long.ensures.accepts;
   limit = grind (arith, common_steps);
+  bound_is = grind (arith, common_steps);
   broken = grind (arith, common_steps);
   whole = grind (arith, common_steps);
 }
@@ -22,6 +23,7 @@ returns-in-Err-clause-writes g c =
       accepts = Accepts-then old mid c.write_long-in-Err.new.self c.args.bytes.now c.write_long-in-Err.result out
           c.write_long-in-Err.ensures.accepts;
       limit = grind (arith, common_steps);
+      bound_is = grind (arith, common_steps);
       broken = grind (arith, common_steps);
       whole = grind (arith, common_steps);
     }
@@ -31,6 +33,7 @@ returns-in-Ok-clause-writes g c = record {
   accepts = Accepts-append c.args.self.now c.make_room.new.self c.append.new.self c.args.bytes.now
       c.make_room.ensures.goes_out c.in-Ok.ensures.ok;
   limit = grind (arith, common_steps);
+  bound_is = grind (arith, common_steps);
   broken = grind (arith, common_steps);
   whole = λ all. StaysWritable-append c.args.self.now c.make_room.new.self c.append.new.self c.args.bytes.now c.make_room.ensures.whole
       c.in-Ok.ensures.ok;

@@ -10,6 +10,7 @@ pub returns-clause-writes : goal.returns-clause-writes
 returns-clause-writes g c = record {
   goes_out = GoesOut-same _ _ _ _ c.write_gathered.ensures.goes_out (grind (arith, common_steps)) (grind (arith, common_steps))
       (grind (arith, common_steps));
+  bound_is = grind (arith, common_steps);
   ends = grind (arith, common_steps);
   whole = grind (arith, common_steps);
   broken = grind (arith, common_steps);

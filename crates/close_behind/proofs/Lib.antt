@@ -1,0 +1,4 @@
+pub mod CallerLemmas
+mod ClosingLemmas
+mod NameLemmas
+pub mod SendLemmas

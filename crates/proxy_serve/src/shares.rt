@@ -1,0 +1,48 @@
+//! Which line, and which worker of it, gets a socket.
+
+use fresh_stream::FreshStream;
+use open_sockets::LineSockets;
+use proxy_rounds::Server;
+use proxy_serve_core::RoundRobin;
+use std::alloc::{AllocError, Global};
+use std::sync::Wait;
+
+/// The line with the fewest sockets gets the next one, and its workers take turns.
+#[derive(Drop)]
+pub(crate) struct Shares {
+    sockets: LineSockets,
+    turns: Vec<RoundRobin>,
+}
+
+impl Shares {
+    pub(crate) fn new(alloc: Global, lines: usize, workers: usize) -> Result<Shares, AllocError> {
+        let mut turns = Vec::new(alloc);
+        for _ in 0..lines {
+            turns.push(RoundRobin::new(workers))?;
+        }
+        Ok(Shares {
+            sockets: LineSockets::new(alloc, lines)?,
+            turns,
+        })
+    }
+
+    /// Takes in which sockets are gone.
+    pub(crate) fn note_gone(&mut self, server: &Server) {
+        for line in 0..self.sockets.lines() {
+            for _ in 0..server.take_gone(line) {
+                self.sockets.remove(line);
+            }
+        }
+    }
+
+    /// Gives the socket to a worker. One without room is closed.
+    pub(crate) fn give<R: Wait>(&mut self, rt: &R, server: &Server, stream: FreshStream) {
+        let line = self.sockets.fewest();
+        self.sockets.add(line);
+        let (Some(stream), Some(turn)) = (server.admit(line, stream), self.turns.get_mut(line))
+        else {
+            return;
+        };
+        server.push(rt, line, turn.take(), stream);
+    }
+}

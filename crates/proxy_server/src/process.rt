@@ -1,0 +1,74 @@
+//! What all lines of generations share.
+
+use crate::host_outs::HostOuts;
+use crate::log::Log;
+use crate::stop::Stop;
+use byte_sum::ByteSum;
+use mio::Waker;
+use open_sockets::OpenSockets;
+use proxy_serve_core::FaultLog;
+use std::alloc::Global;
+use std::sync::{Arc, Mutex, Wait};
+
+/// The lines of a server, and its end.
+#[derive(Clone, Copy, Drop)]
+pub struct Extent {
+    /// The number of lines of generations.
+    pub lines: usize,
+    /// The number of closed connections after which it ends; 0 is never.
+    pub connections: u64,
+}
+
+/// The open sockets, and whether the server goes on; if not, why, unless it is done.
+pub(crate) struct Process {
+    pub(crate) sockets: OpenSockets,
+    stop: Mutex<Option<Stop>>,
+    pub(crate) log: Log,
+    pub(crate) faults: Mutex<FaultLog>,
+    pub(crate) outs: Mutex<HostOuts>,
+    // Of all journals.
+    pub(crate) unfinished: Arc<ByteSum>,
+}
+
+impl Drop for Process {
+    fn drop(self) {
+        let Process {
+            sockets: _,
+            stop: _,
+            log: _,
+            faults: _,
+            outs: _,
+            unfinished: _,
+        } = self;
+    }
+}
+
+impl Process {
+    /// One that goes on.
+    pub(crate) fn new(
+        alloc: Global,
+        waker: Waker,
+        extent: Extent,
+        log: Log,
+    ) -> Result<Process, Stop> {
+        Ok(Process {
+            sockets: OpenSockets::new(alloc, waker, extent.connections, extent.lines)?,
+            stop: Mutex::new(None),
+            log,
+            faults: Mutex::new(FaultLog::new()),
+            outs: Mutex::new(HostOuts::new()),
+            unfinished: Arc::new(alloc, ByteSum::new())?,
+        })
+    }
+
+    /// Ends the server. The first reason stays.
+    pub(crate) fn end<R: Wait>(&self, rt: &R, stop: Stop) {
+        let mut first = self.stop.lock(rt);
+        *first = Stop::first(*first, stop, self.sockets.end());
+    }
+
+    /// Why the server ended, unless it is done.
+    pub(crate) fn stop_reason<R: Wait>(&self, rt: &R) -> Option<Stop> {
+        *self.stop.lock(rt)
+    }
+}
