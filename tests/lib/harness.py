@@ -28,6 +28,8 @@ PROGRAM = os.environ.get("REDPROXY", os.path.join(TOP, "redproxy"))
 BUILT = os.environ.get("REDPROXY", os.path.join(TOP, "crates", "proxy_main", "out", "proxy_main"))
 # So many checks are made side by side.
 LANES = 8
+# So many lines of generations has each proxy that is started; `in_lines` changes it.
+LINES = [1]
 # No call to a socket waits longer than so many seconds.
 PATIENCE = 20
 STARTED = []
@@ -112,6 +114,16 @@ class Redis:
             client.ask("FLUSHALL")
 
 
+@contextlib.contextmanager
+def in_lines(count):
+    """Proxies that are started meanwhile have so many lines of generations."""
+    LINES.append(count)
+    try:
+        yield
+    finally:
+        LINES.pop()
+
+
 class Proxy:
     """`redproxy serve` before some servers. The connection that asks whether it listens is counted by it too."""
 
@@ -127,6 +139,8 @@ class Proxy:
         words = [*before, program, "serve", "--config", self.file, *after]
         if connections:
             words += ["--connections", str(connections)]
+        if LINES[-1] > 1:
+            words += ["--lines", str(LINES[-1])]
         # (it appends: where `told` has moved the place that both share, a line would be written over another)
         self.errors = open(os.path.join(self.room, "errors"), "a+", encoding="utf-8")
         self.output = open(os.path.join(self.room, "output"), "a+", encoding="utf-8")

@@ -5,6 +5,7 @@ Each function of CHECKS yields a line for each difference.
 import json
 import os
 import re
+import time
 
 import sources
 from sources import CRATES, TOP
@@ -93,8 +94,12 @@ def differences_of_settings():
             yield f"the manual page: {key} has ({wanted}, {default})"
 
 
+def metrics_in_code():
+    return set(re.findall(r'name: "(redproxy_\w+)"', text_of("crates", "proxy_pages", "src", "metric.rt")))
+
+
 def differences_of_metrics():
-    code = set(re.findall(r'name: "(redproxy_\w+)"', text_of("crates", "proxy_pages", "src", "metric.rt")))
+    code = metrics_in_code()
     told = {row[0].split("{")[0] for row in rows(OPERATING, "Numbers while it runs") if row[0].startswith("redproxy_")}
     for name in sorted(code - told):
         yield f"OPERATING lacks the metric {name}"
@@ -112,6 +117,19 @@ def differences_of_lines():
                 yield f"OPERATING lacks the line: {line}"
 
 
+def differences_of_symptoms():
+    """What the table of symptoms has one look at: each quotation with a blank is of a line, and each metric the code's."""
+    lines, metrics = [row[0] for row in rows(OPERATING, "Serving")], metrics_in_code()
+    cells = [row.split("|")[2] for row in section(OPERATING, "By symptom").split("\n") if row.startswith("|")]
+    if not cells:
+        yield "OPERATING has no table of symptoms"
+    for quoted in (quoted for cell in cells for quoted in re.findall(r"`([^`]*)`", cell)):
+        if " " in quoted and not any(quoted in line for line in lines):
+            yield f"OPERATING: no line has '{quoted}'"
+        for name in sorted({*re.findall(r"redproxy_\w+", quoted)} - metrics):
+            yield f"OPERATING: a symptom names {name}, which isn't a metric"
+
+
 def differences_of_commands():
     sources = [text_of("crates", "command_table", "src", name) for name in ("entries.rt", "names.rt")]
     count = sum(len(re.findall(r'"[a-z]+"', source)) for source in sources)
@@ -123,11 +141,24 @@ def differences_of_commands():
 def differences_of_tests():
     """Each test that the table of attacks names."""
     for row in rows(OPERATING, "Hostile use"):
-        for name in re.findall(r"[a-z_]+(?:/[a-z]+)?(?: [a-z0-9]+)?", row[2]) if row[0] != "Attack" else ():
+        for name in re.findall(r"[a-z_]+(?:/[a-z_]+)?(?: [a-z0-9]+)?", row[2]) if row[0] != "Attack" else ():
             file, _, word = name.partition(" ") if name.startswith("tests/") else ("tests/with_redis", "", name)
             pattern = rf"^def test_\w*{word}" if word else ""
             if not os.path.exists(os.path.join(TOP, file)) or not re.search(pattern, text_of(file), re.M):
                 yield f"OPERATING names a test that isn't there: {name}"
+
+
+def differences_of_speeds():
+    """Each row of speeds is the last line of its own file in bench/log, with its date, and no file is without a row."""
+    day = re.search(r"\d+ \w+ \d{4}", section(OPERATING, "Speed"))
+    date = time.strftime("%Y-%m-%d", time.strptime(day[0], "%d %B %Y")) if day else ""
+    told = {"-".join(row[:2]).lower().replace(" ", "-") + ".csv": [date, *(cell.replace(",", "") for cell in row[2:])]
+            for row in rows(OPERATING, "Speed") if row[0] != "Command"}
+    logged = {name: text_of("bench", "log", name).split()[-1].split(",") for name in os.listdir(os.path.join(TOP, "bench", "log"))}
+    for name in sorted(told.keys() | logged.keys()):
+        last = logged.get(name, ["", ""])
+        if told.get(name) != [last[0], *last[2:]]:
+            yield f"OPERATING's speeds have {told.get(name)}, and the last line of bench/log/{name} {last}"
 
 
 def differences_of_crates():
@@ -143,11 +174,12 @@ def differences_of_crates():
 
 
 def differences_of_drawings():
-    """Each name of code and each file in a drawing: in ARCHITECTURE's, and in those at the head of a source."""
+    """Each name of code and each file in a drawing: in those of ARCHITECTURE and PROVED, and at the head of a source."""
     texts = sources.sources(but=())
     code = {word for _, text in texts for word in re.findall(r"\w+", re.sub(r"(?m)//.*$", "", text))} | {*sources.crates()}
     paths = sources.paths()
-    drawings = [("ARCHITECTURE", drawn) for drawn in re.findall(r"```\n(.*?)```", text_of("docs", "ARCHITECTURE.md"), re.S)]
+    drawings = [(name, drawn) for name in ("ARCHITECTURE", "PROVED")
+                for kind, drawn in re.findall(r"^```(\w*)\n(.*?)^```$", text_of("docs", name + ".md"), re.S | re.M) if not kind]
     for crate, text in texts:
         drawings += [(crate, drawn) for drawn in re.findall(r"//! ```text\n(.*?)//! ```", text, re.S)]
     for where, drawn in drawings:
@@ -168,7 +200,9 @@ CHECKS = (
     differences_of_settings,
     differences_of_metrics,
     differences_of_lines,
+    differences_of_symptoms,
     differences_of_commands,
     differences_of_tests,
+    differences_of_speeds,
     differences_of_crates,
 )

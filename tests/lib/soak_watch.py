@@ -19,14 +19,18 @@ SUMS = ("accepted", "handed", "sent", "answered", "lost")
 
 
 class Watched(Proxy):
-    """The proxy with its page of numbers. It drains at signals and orders, and may have only some of the processors."""
+    """The proxy with its page of numbers, and with lines of generations. It drains at signals and orders, and may have only some of
+    the processors."""
 
-    def __init__(self, names, processors, **settings):
+    def __init__(self, names, processors, lines=1, **settings):
         """Starts it; 0 processors are all."""
         self.admin = free_port()
         some = ",".join(map(str, sorted(os.sched_getaffinity(0))[:processors]))
         before = [*(["taskset", "--cpu-list", some] if processors else []), "env", "--block-signal=TERM,INT"]
-        super().__init__((), program=BUILT, before=before, after=("--metrics", f"127.0.0.1:{self.admin}"), hosts=names, **settings)
+        after = ("--metrics", f"127.0.0.1:{self.admin}", "--lines", str(lines))
+        # (the C library gives large pieces back at once, so that the process has what the program holds)
+        gives_back = {"MALLOC_MMAP_THRESHOLD_": "131072"}
+        super().__init__((), program=BUILT, before=before, after=after, hosts=names, environment=gives_back, **settings)
 
     def asked(self, path, method="GET"):
         """The text of one of its pages, or its answer to an order."""
@@ -93,7 +97,7 @@ class Ejections:
         *lines, self.rest = (self.rest + self.lines.read()).split("\n")
         for line in lines:
             host, _, event = line.removeprefix("redproxy: host ").partition(" ")
-            if event == "is put aside":
+            if event.startswith("is put aside"):
                 self.lined[host] += 1
                 self.out.setdefault(host, now)
             elif event == "is back":

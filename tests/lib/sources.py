@@ -1,4 +1,4 @@
-"""What tests/pages and tests/definitions share: the sources of the crates."""
+"""What tests/pages, tests/definitions and tests/contracts share: the sources of the crates."""
 import os
 import re
 
@@ -6,6 +6,9 @@ TOP = os.path.dirname(os.path.dirname(os.path.dirname(os.path.abspath(__file__))
 CRATES = os.path.join(TOP, "crates")
 # Crates without a public contract of their own.
 PLAIN = ("test_scenarios", "test_parts", "test_rows", "test_components", "test_serve", "benches", "proxy_command_line", "proxy_main")
+
+# The name of a public function without arguments and body, whose contract is a law.
+LAW = r"^pub fn (\w+)(?:<.*>)?\(\)\n(?: .*\n)+\{\}$"
 
 
 def text_of(path):
