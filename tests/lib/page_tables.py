@@ -95,12 +95,12 @@ def differences_of_settings():
 
 
 def metrics_in_code():
-    return set(re.findall(r'name: "(redproxy_\w+)"', text_of("crates", "proxy_pages", "src", "metric.rt")))
+    return set(re.findall(r'name: "((?:redproxy|process)_\w+)"', text_of("crates", "proxy_pages", "src", "metric.rt")))
 
 
 def differences_of_metrics():
     code = metrics_in_code()
-    told = {row[0].split("{")[0] for row in rows(OPERATING, "Numbers while it runs") if row[0].startswith("redproxy_")}
+    told = {row[0].split("{")[0] for row in rows(OPERATING, "Numbers while it runs") if row[0].startswith(("redproxy_", "process_"))}
     for name in sorted(code - told):
         yield f"OPERATING lacks the metric {name}"
     for name in sorted(told - code):

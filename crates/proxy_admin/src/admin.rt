@@ -1,4 +1,5 @@
 use crate::operated::Operated;
+use crate::process_files::ProcessFiles;
 use crate::visits::{LISTENER, Visits};
 use mio::net::TcpListener;
 use mio::{Interest, Poll};
@@ -21,6 +22,8 @@ pub struct Admin {
     pub version: &'static str,
     /// The kit that proved it.
     pub kit: &'static str,
+    /// What tells how much the process uses.
+    pub process: ProcessFiles,
 }
 
 /// Why the operator's end could not be opened.

@@ -8,8 +8,10 @@
 mod admin;
 mod operated;
 mod places;
+mod process_files;
 mod visitor;
 mod visits;
 
 pub use admin::{Admin, AdminListener, OpenError};
 pub use operated::Operated;
+pub use process_files::ProcessFiles;

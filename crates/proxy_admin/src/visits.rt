@@ -118,7 +118,8 @@ impl Visits {
         if self.visitors.is_empty() {
             return;
         }
-        let snapshot = server.snapshot(rt);
+        let mut snapshot = server.snapshot(rt);
+        snapshot.process = self.admin.process.process_use();
         let about = About {
             version: self.admin.version,
             kit: self.admin.kit,

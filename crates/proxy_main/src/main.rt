@@ -18,15 +18,16 @@ use proxy_command_line::{
 use proxy_config::Config;
 use proxy_exit_status::Ending;
 use proxy_local::local_run;
-use proxy_serve::{Admin, Level, Log, Marks, Options, Stop, serve};
+use proxy_serve::{Admin, Level, Log, Marks, Options, ProcessFiles, Stop, serve};
 use std::fs::{File, Files};
 use std::hash::RandomState;
 use std::net::{Net, SocketAddr};
 use std::process::ExitCode;
 use std::random::RandomSource;
-use std::rt::Runtime;
+use std::rt::{Clock, Runtime};
 use std::sync::Wait;
 use std::thread::Threads;
+use std::time::{SystemTime, UNIX_EPOCH};
 use std::{env, io};
 
 // The status of a bad command line.
@@ -114,8 +115,19 @@ fn serve_by<
     )
 }
 
+// The seconds since 1970; 0 where the clock doesn't tell.
+fn seconds<R: Clock>(rt: &R) -> u64 {
+    let Ok(now) = SystemTime::now(rt) else {
+        return 0;
+    };
+    match now.duration_since(UNIX_EPOCH) {
+        Ok(since) => since.as_secs(),
+        Err(_) => 0,
+    }
+}
+
 // The operator's listener, if one is wanted.
-fn admin<R: Runtime + RandomSource + Net>(
+fn admin<R: Runtime + RandomSource + Net + Files<File = File>>(
     rt: &R,
     metrics: Option<SocketAddr>,
 ) -> Result<Option<Admin>, Stop> {
@@ -132,6 +144,11 @@ fn admin<R: Runtime + RandomSource + Net>(
             keys,
             version: VERSION,
             kit: KIT,
+            process: ProcessFiles {
+                stat: File::open(rt, "/proc/self/stat").ok(),
+                files: File::open(rt, "/proc/self/fd").ok(),
+                began: seconds(rt),
+            },
         })),
         Err(error) => Err(Stop::socket("cannot get random numbers", error)),
     }

@@ -3,7 +3,7 @@ use Rattle.std.specs.Prelude.{ℕ, ◌+◌, ◌-◌, ◌^◌, min, ◌==◌, Boo
 use Rattle.proxy_stats.specs.declared.tally.HostCounts.{HostCounts}
 use Rattle.proxy_stats.specs.declared.load.HostLoad.{HostLoad}
 use Rattle.proxy_pages.specs.declared.metric.Number.{Number}
-use Rattle.proxy_pages.specs.declared.metric.Number.TheVariants.{Accepted, Handed, Ejections, Kept, Panic, Connections, Closed, Generations, Draining, Turns, Ready, Ending}
+use Rattle.proxy_pages.specs.declared.metric.Number.TheVariants.{Accepted, Handed, Ejections, Kept, Panic, Connections, Closed, Generations, Draining, Turns, Ready, Ending, Resident, Files, Began}
 use Rattle.proxy_pages.specs.declared.metric.HostNumber.{HostNumber}
 use Rattle.proxy_pages.specs.declared.metric.HostNumber.TheVariants.{Sent, Answered, Faults, Lost, Waiting, Flying, Out}
 use Rattle.proxy_pages.specs.declared.metric.JournalNumber.{JournalNumber}
@@ -34,6 +34,9 @@ number_of s Draining = s.draining_count
 number_of s Turns = capped (capped (s.past_steps + s.serving.steps) + s.draining.steps)
 number_of s Ready = bit s.is_ready
 number_of s Ending = bit s.is_ending
+number_of s Resident = s.process.resident
+number_of s Files = s.process.files
+number_of s Began = s.process.began
 
 -- what was counted of a host
 abbrev pub counts_at : Snapshot → ℕ → HostCounts

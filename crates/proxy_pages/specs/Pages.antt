@@ -11,7 +11,7 @@ use Rattle.proxy_serve_core.specs.declared.fault_log.HostFaults.{HostFaults}
 use Rattle.proxy_pages.specs.declared.metric.Kind.{Kind}
 use Rattle.proxy_pages.specs.declared.metric.Kind.TheVariants.{Counter, Gauge, Histogram as HistogramKind}
 use Rattle.proxy_pages.specs.declared.metric.Numbers.{Numbers}
-use Rattle.proxy_pages.specs.declared.metric.Numbers.TheVariants.{Build, One, ByAnswer, ByCause, ByHost, ByHostFault, Out as ByOut, ByJournal, Durations}
+use Rattle.proxy_pages.specs.declared.metric.Numbers.TheVariants.{Build, One, ByAnswer, ByCause, ByHost, ByHostFault, Out as ByOut, ByJournal, Durations, Cpu}
 use Rattle.proxy_pages.specs.declared.metric.HostNumber.{HostNumber}
 use Rattle.proxy_pages.specs.declared.metric.HostNumber.TheVariants.{Sent, Answered, Faults, Lost, Waiting, Flying, Out}
 use Rattle.proxy_pages.specs.declared.snapshot.About.{About}
@@ -109,6 +109,10 @@ bounds_text name h = each 12 (λ i. bound_text name (slice_index BOUNDS_MS i) (s
 abbrev pub sum_text : List ℕ → Histogram → List ℕ
 sum_text name h = concat (name ∷ codes "_sum " ∷ []) ++ seconds_text h.sum_ms ++ concat (codes "\n" ∷ [])
 
+-- milliseconds of processor time, in seconds
+abbrev pub cpu_text : List ℕ → ℕ → List ℕ
+cpu_text name ms = concat (name ∷ codes " " ∷ []) ++ seconds_text ms ++ concat (codes "\n" ∷ [])
+
 -- a histogram
 abbrev pub durations_text : List ℕ → Histogram → List ℕ
 durations_text name h =
@@ -130,6 +134,7 @@ numbers_by about s name (ByJournal number) =
     labelled_text name (codes "journal") (codes "serving") (journal_number number s.serving)
     ++ labelled_text name (codes "journal") (codes "draining") (journal_number number s.draining)
 numbers_by about s name Durations = durations_text name s.durations
+numbers_by about s name Cpu = cpu_text name s.process.cpu_ms
 
 -- the numbers of a metric
 abbrev pub numbers_text : About → Snapshot → Row → List ℕ

@@ -4,9 +4,10 @@ use Rattle.http_header.specs.FieldValue.{FieldValue}
 use Rattle.http1.specs.Fields.{Header}
 use Rattle.http_server.specs.declared.response.Response.{Response}
 use Rattle.http_server.specs.Response.{IsResponse}
+use Rattle.proxy_pages.specs.declared.index.TheConstants.{INDEX}
 use Rattle.proxy_pages.specs.declared.reply.Order.TheVariants.{Drain, Quit}
 use Rattle.proxy_pages.specs.declared.reply.Page.{Page}
-use Rattle.proxy_pages.specs.declared.reply.Page.TheVariants.{Metrics, Hosts, Ready, Live}
+use Rattle.proxy_pages.specs.declared.reply.Page.TheVariants.{Index, Metrics, Hosts, Ready, Live}
 use Rattle.proxy_pages.specs.declared.reply.Reply.{Reply}
 use Rattle.proxy_pages.specs.declared.reply.Reply.TheVariants as reply
 use Rattle.proxy_pages.specs.declared.snapshot.About.{About}
@@ -27,6 +28,7 @@ status_of is_ready reply.NotFound = 404
 abbrev pub field_of : Reply → Header
 field_of reply.OnlyRead = (codes "allow", codes "GET, HEAD")
 field_of reply.OnlySent = (codes "allow", codes "POST")
+field_of (reply.Page Index) = (codes "content-type", codes "text/html; charset=utf-8")
 field_of (reply.Page Metrics) = (codes "content-type", codes "text/plain; version=0.0.4; charset=utf-8")
 field_of _ = (codes "content-type", codes "text/plain; charset=utf-8")
 
@@ -36,6 +38,7 @@ field_text field = (field.0, field.1.bytes)
 
 -- the text of a page
 abbrev pub page_text : About → Snapshot → Page → List ℕ
+page_text about s Index = INDEX.now
 page_text about s Metrics = metrics_text about s
 page_text about s Hosts = hosts_text about s
 page_text about s Ready = if s.is_ready then codes "ready\n" else codes "not ready\n"

@@ -4,7 +4,7 @@ use Rattle.std.specs.Str.{bytes_eq}
 use Rattle.proxy_pages.specs.declared.reply.Order.{Order}
 use Rattle.proxy_pages.specs.declared.reply.Order.TheVariants.{Drain, Quit}
 use Rattle.proxy_pages.specs.declared.reply.Page.{Page}
-use Rattle.proxy_pages.specs.declared.reply.Page.TheVariants.{Metrics, Hosts, Ready, Live}
+use Rattle.proxy_pages.specs.declared.reply.Page.TheVariants.{Index, Metrics, Hosts, Ready, Live}
 use Rattle.proxy_pages.specs.declared.reply.Reply.{Reply}
 use Rattle.proxy_pages.specs.declared.reply.Reply.TheVariants as reply
 
@@ -21,10 +21,11 @@ order_at path =
 -- the page of a path, if it has one
 abbrev pub page_at : List ℕ → Option Page
 page_at path =
+    if is_text path (codes "/") then Some Index else (
     if is_text path (codes "/metrics") then Some Metrics else (
     if is_text path (codes "/hosts") then Some Hosts else (
     if is_text path (codes "/ready") then Some Ready else (
-    if is_text path (codes "/live") then Some Live else None)))
+    if is_text path (codes "/live") then Some Live else None))))
 
 -- an order is taken by POST alone, and not from a page of a browser
 abbrev pub reply_to_order : List ℕ → Bool → Order → Reply

@@ -3,7 +3,7 @@ use Rattle.std.specs.Prelude.{ℕ, List, [], ◌∷◌, codes}
 use Rattle.proxy_pages.specs.declared.metric.Kind.{Kind}
 use Rattle.proxy_pages.specs.declared.metric.Kind.TheVariants.{Counter, Gauge, Histogram as HistogramKind}
 use Rattle.proxy_pages.specs.declared.metric.Numbers.{Numbers}
-use Rattle.proxy_pages.specs.declared.metric.Numbers.TheVariants.{Build, One, ByAnswer, ByCause, ByHost, ByHostFault, Out, ByJournal, Durations}
+use Rattle.proxy_pages.specs.declared.metric.Numbers.TheVariants.{Build, One, ByAnswer, ByCause, ByHost, ByHostFault, Out, ByJournal, Durations, Cpu}
 use Rattle.proxy_pages.specs.declared.metric.Number.TheVariants as number
 use Rattle.proxy_pages.specs.declared.metric.HostNumber.TheVariants as host
 use Rattle.proxy_pages.specs.declared.metric.JournalNumber.TheVariants as journal
@@ -52,4 +52,8 @@ metrics =
     ∷ row (codes "redproxy_journal_payload_bytes") Gauge (codes "Bytes of payload in a journal, which takes 67108864.") (ByJournal journal.Bytes)
     ∷ row (codes "redproxy_ready") Gauge (codes "Whether new connections are taken.") (One number.Ready)
     ∷ row (codes "redproxy_ending") Gauge (codes "Whether the proxy was ordered to end.") (One number.Ending)
+    ∷ row (codes "process_resident_memory_bytes") Gauge (codes "Memory of the process in the machine.") (One number.Resident)
+    ∷ row (codes "process_cpu_seconds_total") Counter (codes "Processor time of the process.") Cpu
+    ∷ row (codes "process_open_fds") Gauge (codes "Open files and sockets of the process.") (One number.Files)
+    ∷ row (codes "process_start_time_seconds") Gauge (codes "When the process began, in seconds since 1970.") (One number.Began)
     ∷ []

@@ -3,6 +3,7 @@ ghost use Rattle.std.specs.Prelude.{◌≡◌, ◌++◌, None, OnOk};
 ghost use Rattle.http_server.specs.Response.{IsBlank};
 ghost use Rattle.proxy_pages.specs.Replies.{IsReply, body_of, field_of, field_text, page_text, status_of};
 
+use crate::index::INDEX;
 use crate::reply::{Order, Page, Reply, reply_to};
 use crate::snapshot::{About, Snapshot};
 use crate::{hosts, metrics};
@@ -76,6 +77,7 @@ impl<'a> Admin<'a> {
         ensures headers { response.new.headers ≡ response.old.headers }
     {
         match page {
+            Page::Index => response.body.put_slice(INDEX.as_bytes()),
             Page::Metrics => {
                 let text = metrics::page(self.alloc, self.about, self.snapshot)?;
                 response.body.put_slice(text.as_slice())
@@ -110,6 +112,10 @@ fn field(reply: Reply) -> (HeaderName, HeaderValue)
     match reply {
         Reply::OnlyRead => (header::ALLOW, HeaderValue::from_static("GET, HEAD")),
         Reply::OnlySent => (header::ALLOW, HeaderValue::from_static("POST")),
+        Reply::Page(Page::Index) => (
+            header::CONTENT_TYPE,
+            HeaderValue::from_static("text/html; charset=utf-8"),
+        ),
         Reply::Page(Page::Metrics) => (
             header::CONTENT_TYPE,
             HeaderValue::from_static("text/plain; version=0.0.4; charset=utf-8"),

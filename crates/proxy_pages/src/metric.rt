@@ -33,6 +33,9 @@ pub(crate) enum Number {
     Turns,
     Ready,
     Ending,
+    Resident,
+    Files,
+    Began,
 }
 
 /// A number of each host.
@@ -83,6 +86,9 @@ pub(crate) enum Numbers {
 
     /// The histogram of the durations of commands.
     Durations,
+
+    /// The processor time of the process.
+    Cpu,
 }
 
 /// A metric.
@@ -145,7 +151,7 @@ pub(crate) fn fault_word(cause: FaultCause) -> &'static str
 }
 
 /// The number of metrics.
-pub(crate) const METRIC_COUNT: usize = 25;
+pub(crate) const METRIC_COUNT: usize = 29;
 
 /// All metrics, in the order of the page.
 pub(crate) const METRICS: [Metric; METRIC_COUNT] = [
@@ -298,5 +304,29 @@ pub(crate) const METRICS: [Metric; METRIC_COUNT] = [
         kind: Kind::Gauge,
         help: "Whether the proxy was ordered to end.",
         numbers: Numbers::One(Number::Ending),
+    },
+    Metric {
+        name: "process_resident_memory_bytes",
+        kind: Kind::Gauge,
+        help: "Memory of the process in the machine.",
+        numbers: Numbers::One(Number::Resident),
+    },
+    Metric {
+        name: "process_cpu_seconds_total",
+        kind: Kind::Counter,
+        help: "Processor time of the process.",
+        numbers: Numbers::Cpu,
+    },
+    Metric {
+        name: "process_open_fds",
+        kind: Kind::Gauge,
+        help: "Open files and sockets of the process.",
+        numbers: Numbers::One(Number::Files),
+    },
+    Metric {
+        name: "process_start_time_seconds",
+        kind: Kind::Gauge,
+        help: "When the process began, in seconds since 1970.",
+        numbers: Numbers::One(Number::Began),
     },
 ];

@@ -1,7 +1,7 @@
 //! The page of numbers, in Prometheus's text format.
 ghost use Rattle.std.specs.Prelude.{◌≡◌, ◌++◌, ◌<◌, IfOk, OnOk, map, length};
 ghost use Rattle.std.specs.List.{concat};
-ghost use Rattle.proxy_pages.specs.Pages.{head_text, metric_text, metrics_text, numbers_text, answers_text, causes_text, host_numbers_text, host_faults_text, fault_word, faults_text, lines_out_text, host_outs_text, outs_text, durations_text, bounds_text, sum_text};
+ghost use Rattle.proxy_pages.specs.Pages.{head_text, metric_text, metrics_text, numbers_text, answers_text, causes_text, host_numbers_text, host_faults_text, fault_word, faults_text, lines_out_text, host_outs_text, outs_text, durations_text, bounds_text, sum_text, cpu_text};
 ghost use Rattle.proxy_pages.specs.Numbers.{bit};
 ghost use Rattle.proxy_pages.specs.Table.{row_of};
 ghost use Rattle.proxy_pages.specs.Lines.{fault_text};
@@ -107,6 +107,7 @@ impl Metric {
                 push_labelled(page, self.name, "journal", "draining", draining)
             }
             Numbers::Durations => push_durations(page, self.name, &snapshot.durations),
+            Numbers::Cpu => push_cpu(page, self.name, snapshot.process.cpu_ms),
         }
     }
 }
@@ -242,6 +243,14 @@ fn push_durations(page: &mut Vec<u8>, name: &str, durations: &Histogram) -> Resu
     push_last_bound(page, name, durations.total)?;
     push_sum(page, name, durations)?;
     push_plain(page, name, "_count", durations.total)
+}
+
+fn push_cpu(page: &mut Vec<u8>, name: &str, ms: u64) -> Result<(), AllocError>
+    ensures { OnOk result (page.new.items ≡ page.old.items ++ cpu_text name.now ms) }
+{
+    push_all(page, &[name, " "])?;
+    push_seconds(page, ms)?;
+    push_all(page, &["\n"])
 }
 
 fn push_sum(page: &mut Vec<u8>, name: &str, durations: &Histogram) -> Result<(), AllocError>

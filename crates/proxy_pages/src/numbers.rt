@@ -28,6 +28,9 @@ impl Number {
                 .saturating_add(draining.steps),
             Number::Ready => u64::from(snapshot.is_ready),
             Number::Ending => u64::from(snapshot.is_ending),
+            Number::Resident => snapshot.process.resident,
+            Number::Files => snapshot.process.files,
+            Number::Began => snapshot.process.began,
         }
     }
 }

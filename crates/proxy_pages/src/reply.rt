@@ -15,6 +15,7 @@ pub enum Order {
 /// The pages.
 #[derive(Clone, Copy, Debug, PartialEq, Eq)]
 pub(crate) enum Page {
+    Index,
     Metrics,
     Hosts,
     Ready,
@@ -84,6 +85,9 @@ fn order_at(path: &str) -> Option<Order>
 fn page_at(path: &str) -> Option<Page>
     ensures { result ≡ page_at path.now }
 {
+    if path == "/" {
+        return Some(Page::Index);
+    }
     if path == "/metrics" {
         return Some(Page::Metrics);
     }

@@ -79,6 +79,32 @@ impl LineHosts {
     };
 }
 
+/// What the process uses, as the system tells it; 0 where it doesn't.
+#[derive(Clone, Copy, Debug, PartialEq, Eq)]
+pub struct ProcessUse {
+    /// The bytes of its memory that are in the machine's.
+    pub resident: u64,
+
+    /// Its processor time, in milliseconds.
+    pub cpu_ms: u64,
+
+    /// The number of its open files, sockets among them.
+    pub files: u64,
+
+    /// When it began, in seconds since 1970.
+    pub began: u64,
+}
+
+impl ProcessUse {
+    /// The system tells nothing.
+    pub const UNKNOWN: ProcessUse = ProcessUse {
+        resident: 0,
+        cpu_ms: 0,
+        files: 0,
+        began: 0,
+    };
+}
+
 /// What a proxy has done, and its present state.
 #[derive(Clone, Copy, Debug, PartialEq, Eq)]
 pub struct Snapshot {
@@ -123,6 +149,9 @@ pub struct Snapshot {
 
     /// Whether the proxy was ordered to end.
     pub is_ending: bool,
+
+    /// What the process uses.
+    pub process: ProcessUse,
 }
 
 impl Snapshot {

@@ -25,7 +25,7 @@ mod shares;
 mod signals;
 
 pub use close_behind::CloseBehind;
-pub use proxy_admin::Admin;
+pub use proxy_admin::{Admin, ProcessFiles};
 pub use proxy_connections::{assigned_hosts_have_one_pass, passes_share_no_host};
 pub use proxy_generations::Marks;
 pub use proxy_rounds::ServeRuntime;

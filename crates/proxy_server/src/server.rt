@@ -9,7 +9,7 @@ use mio::Waker;
 use open_sockets::AdmittedStream;
 use proxy_config::Config;
 use proxy_histogram::Histogram;
-use proxy_pages::{LineHosts, MAX_LINES_SHOWN, Snapshot};
+use proxy_pages::{LineHosts, MAX_LINES_SHOWN, ProcessUse, Snapshot};
 use proxy_stats::Counts;
 use std::alloc::Global;
 use std::sync::{Arc, Wait};
@@ -158,6 +158,7 @@ impl<C: Drop> Server<C> {
             durations: Histogram::new(),
             is_ready: !is_ending,
             is_ending,
+            process: ProcessUse::UNKNOWN,
         };
         for (number, line) in self.lines.iter().enumerate() {
             line.add_to(rt, number, &mut all);

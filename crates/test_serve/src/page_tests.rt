@@ -6,7 +6,7 @@ use http::Request;
 use http_server::{Response, Service};
 use limits::MAX_HOSTS;
 use proxy_histogram::Histogram;
-use proxy_pages::{About, Admin, LineHosts, Look, MAX_LINES_SHOWN, Snapshot};
+use proxy_pages::{About, Admin, LineHosts, Look, MAX_LINES_SHOWN, ProcessUse, Snapshot};
 use proxy_serve_core::HostFaults;
 use proxy_stats::Counts;
 use std::alloc::Global;
@@ -55,6 +55,7 @@ fn snapshot() -> Snapshot {
         durations,
         is_ready: true,
         is_ending: false,
+        process: ProcessUse::UNKNOWN,
     }
 }
 
