@@ -8,4 +8,6 @@ mod open_sockets;
 mod sockets;
 
 pub use line_sockets::LineSockets;
-pub use open_sockets::{AdmittedStream, MAX_LINES, MAX_WAITING_BYTES, OpenSocket, OpenSockets};
+pub use open_sockets::{
+    AdmittedStream, MAX_LINES, MAX_WAITING_BYTES, NotAdmitted, OpenSocket, OpenSockets,
+};

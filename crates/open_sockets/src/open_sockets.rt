@@ -20,6 +20,8 @@ struct Shared {
     // For each line its sockets that are gone, until `take_gone`.
     gone: Vec<AtomicU64>,
     closed: AtomicU64,
+    // The connections that were ended since their clients were idle.
+    idle: AtomicU64,
     most_closed: u64,
     is_running: AtomicBool,
     // Wakes the thread that accepts.
@@ -33,6 +35,7 @@ impl Drop for Shared {
             waiting: _,
             gone: _,
             closed: _,
+            idle: _,
             most_closed: _,
             is_running: _,
             waker: _,
@@ -96,6 +99,22 @@ impl OpenSocket {
         self.shared.waiting.change(bytes, self.waiting);
         self.waiting = bytes;
     }
+
+    /// Its connection is ended, since its client is idle.
+    pub fn count_idle(&self) {
+        self.shared.idle.fetch_add(1, Ordering::SeqCst);
+    }
+}
+
+/// Why an accepted stream isn't served. It is closed.
+#[derive(Clone, Copy, Debug, PartialEq, Eq, Drop)]
+pub enum NotAdmitted {
+    /// `MAX_SOCKETS` are open.
+    Full,
+    /// No socket is taken any more.
+    Draining,
+    /// There is no memory for it.
+    NoMemory,
 }
 
 /// A client's stream that may be served.
@@ -142,6 +161,7 @@ impl OpenSockets {
             waiting: ByteSum::new(),
             gone,
             closed: AtomicU64::new(0),
+            idle: AtomicU64::new(0),
             most_closed,
             is_running: AtomicBool::new(true),
             waker,
@@ -152,23 +172,28 @@ impl OpenSockets {
         }
     }
 
-    /// Counts an accepted stream of this line. `None`: it is closed and gone, since `MAX_SOCKETS` are open or none is accepted any
-    /// more.
-    pub fn admit(&self, line: usize, stream: FreshStream) -> Option<AdmittedStream> {
+    /// Counts an accepted stream of this line; or it is closed and gone.
+    pub fn admit(
+        &self,
+        line: usize,
+        stream: FreshStream,
+    ) -> Result<AdmittedStream, NotAdmitted> {
         let Ok(shared) = Arc::try_clone(&self.shared) else {
             self.shared.count_gone(line);
-            return None;
+            return Err(NotAdmitted::NoMemory);
         };
-        let before = shared.word.fetch_add(1, Ordering::SeqCst);
+        let before = Sockets::of(shared.word.fetch_add(1, Ordering::SeqCst));
         let open = OpenSocket {
             shared,
             line,
             waiting: 0,
         };
-        if Sockets::of(before).may_open() {
-            Some(AdmittedStream { stream, open })
+        if before.may_open() {
+            Ok(AdmittedStream { stream, open })
+        } else if before.is_draining {
+            Err(NotAdmitted::Draining)
         } else {
-            None
+            Err(NotAdmitted::Full)
         }
     }
 
@@ -222,6 +247,11 @@ impl OpenSockets {
     /// The number of closed connections.
     pub fn closed(&self) -> u64 {
         self.shared.closed.load(Ordering::SeqCst)
+    }
+
+    /// The number of connections that were ended since their clients were idle.
+    pub fn idle_closed(&self) -> u64 {
+        self.shared.idle.load(Ordering::SeqCst)
     }
 
     /// Whether the server goes on.

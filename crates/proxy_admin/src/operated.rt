@@ -14,8 +14,8 @@ pub trait Operated {
     /// Its numbers now.
     fn snapshot<R: Wait>(&self, rt: &R) -> Snapshot;
 
-    /// Carries out an order.
-    fn obey<R: Wait + Eprint>(&self, rt: &R, order: Order);
+    /// Carries out an order that came at this moment.
+    fn obey<R: Wait + Eprint>(&self, rt: &R, order: Order, moment: u64);
 
     /// The operator's poll failed: nothing is answered at its address any more.
     fn log_silence<R: Eprint>(&self, rt: &R, error: Error);

@@ -46,9 +46,9 @@ pub(crate) struct OwedOrder {
 }
 
 impl OwedOrder {
-    pub(crate) fn carry_out<R: Wait + Eprint, S: Operated>(self, rt: &R, server: &S) {
+    pub(crate) fn carry_out<R: Wait + Eprint, S: Operated>(self, rt: &R, server: &S, moment: u64) {
         let OwedOrder { order } = self;
-        server.obey(rt, order);
+        server.obey(rt, order, moment);
     }
 }
 

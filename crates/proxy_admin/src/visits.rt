@@ -127,7 +127,7 @@ impl Visits {
         };
         for key in 0..self.visitors.capacity() {
             match self.serve_visitor(key, &about, &snapshot, moment) {
-                Some(order) => order.carry_out(rt, server),
+                Some(order) => order.carry_out(rt, server, moment),
                 None => {}
             }
         }

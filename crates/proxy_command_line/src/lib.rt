@@ -51,6 +51,10 @@ pub struct ServeOptions {
     pub connections: u64,
     /// The number of lines of generations.
     pub lines: u32,
+    /// A client that is idle for this many milliseconds is closed; 0: none is.
+    pub idle_ms: u64,
+    /// A drain begins this many milliseconds after its order.
+    pub drain_after_ms: u64,
     /// The operator's address for HTTP.
     pub metrics: Option<SocketAddr>,
     /// Behind which refused commands a connection is closed.
@@ -144,6 +148,29 @@ fn lines<'a>(alloc: Global) -> Arg<'a> {
         .action(ArgAction::Set)
 }
 
+fn idle<'a>(alloc: Global) -> Arg<'a> {
+    Arg::new(alloc, "idle-ms")
+        .long("idle-ms")
+        .value_name("N")
+        .help(
+            "Close a client to which nothing is owed, and which sends nothing, for so many milliseconds, 1 to 86400000",
+        )
+        .value_parser(value_parser!(u32).range(1..=86_400_000))
+        .action(ArgAction::Set)
+}
+
+fn drain_after<'a>(alloc: Global) -> Arg<'a> {
+    Arg::new(alloc, "drain-after")
+        .long("drain-after")
+        .value_name("MS")
+        .help(
+            "Begin to drain so many milliseconds after the order, 0 to 86400000; /ready tells of it at once",
+        )
+        .value_parser(value_parser!(u32).range(0..=86_400_000))
+        .default_value("0")
+        .action(ArgAction::Set)
+}
+
 fn metrics<'a>(alloc: Global) -> Arg<'a> {
     Arg::new(alloc, "metrics")
         .long("metrics")
@@ -227,6 +254,8 @@ fn serve<'a>(alloc: Global) -> Result<Command<'a>, AllocError> {
         .arg(config(alloc))?
         .arg(connections(alloc))?
         .arg(lines(alloc))?
+        .arg(idle(alloc))?
+        .arg(drain_after(alloc))?
         .arg(metrics(alloc))?
         .arg(behind(alloc))
 }
@@ -275,6 +304,8 @@ pub fn read(alloc: Global, words: &[String]) -> Result<Action, CommandLineError>
             let options = ServeOptions {
                 connections: u64::from(matches.get_one::<u32>("connections").unwrap_or(0)),
                 lines: matches.get_one::<u32>("lines").unwrap_or(1),
+                idle_ms: u64::from(matches.get_one::<u32>("idle-ms").unwrap_or(0)),
+                drain_after_ms: u64::from(matches.get_one::<u32>("drain-after").unwrap_or(0)),
                 metrics: address(matches.get_str("metrics"))?,
                 behind: closing(alloc, matches.get_str("close-behind"))?,
             };

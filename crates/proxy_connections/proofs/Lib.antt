@@ -6,3 +6,4 @@ pub mod AssignedLemmas
 mod WorkerPlaces
 pub mod WorkerConnectionLemmas
 pub mod StalledLemmas
+mod IdleLemmas

@@ -7,3 +7,4 @@ pub mod Links
 pub mod HostFaults
 pub mod Room
 pub mod WaitingOutput
+pub mod Idle

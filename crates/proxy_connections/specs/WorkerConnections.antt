@@ -19,6 +19,7 @@ use Rattle.proxy_notices.specs.Places.{IsOf, hosts_of}
 use Rattle.proxy_notices.specs.declared.place.Place.{Place}
 use Rattle.proxy_connections.specs.Places.{KeepsToPlace}
 use Rattle.proxy_connections.specs.Stages.{HasPassedAll, MayGoOver, is_lingering}
+use Rattle.proxy_connections.specs.Idle.{IsIdleFor}
 use Rattle.proxy_connections.specs.WaitingOutput.{stalled_bytes}
 use Rattle.proxy_connections.specs.declared.stalled.Stalled.{Stalled}
 use Rattle.proxy_connections.specs.declared.client_connection.ClientConnection.{ClientConnection}
@@ -111,6 +112,13 @@ pub record IsMostBelow (now : ℕ) (clients : Slab ClientConnection) (end : ℕ)
       → stalled_bytes now client.waiting ≤ most.bytes
   pub there : 0 < most.bytes → (client : ClientConnection) × IsAt clients most.key client
       × (stalled_bytes now client.waiting ≡ most.bytes)
+
+-- IDLE
+
+-- there is a client at this key, it is served, and it has been idle for this many milliseconds; 0 is never
+abbrev pub HasIdle : ℕ → ℕ → Slab ClientConnection → ℕ → Type 0
+HasIdle now ms clients key =
+    (client : ClientConnection) × IsAt clients key client × IsIdleFor now ms client.stage client.idle
 
 -- CHANGES
 

@@ -8,6 +8,7 @@ ghost use Rattle.journal_budget.specs.ReplySizes.{charge_for};
 ghost use Rattle.proxy_connections.specs.Room.{HasRoom};
 ghost use Rattle.proxy_connections.specs.Stages.{ComesTo, HasGoneOut, HasPassedAll, IsOverAt, MayGoOver, PassesOn, TellsClosed, TellsEnd, end_of, is_lingering};
 ghost use Rattle.proxy_connections.specs.Sockets.{CarriesItsSocket, MayDrain, OpensSocket};
+ghost use Rattle.proxy_connections.specs.Idle.{IsIdleFor};
 ghost use Rattle.proxy_connections.specs.WaitingOutput.{IsHeldBack, stalled_bytes};
 
 use crate::socket::{Reader, SharedStream, Socket, Writer, note_readable, note_writable};
@@ -26,7 +27,7 @@ use open_sockets::{AdmittedStream, OpenSocket};
 use proxy_engines::{ClientEnds, ClientEngine, EngineError, Progress, Rest};
 use proxy_exit_status::Ending;
 use proxy_histogram::{Histogram, Unanswered};
-use proxy_serve_core::Refusals;
+use proxy_serve_core::{ClientSight, Idleness, Refusals};
 use socket_halves::Discarded;
 use std::alloc::Global;
 use std::marker::Model;
@@ -46,6 +47,7 @@ pub(crate) struct ClientRound<'a> {
     pub(crate) most_parts: u64,
     pub(crate) carries_over: bool,
     pub(crate) buffers_all: bool,
+    pub(crate) idle_ms: u64,
 }
 
 /// An accepted socket, which is counted, and what closes its connection.
@@ -123,6 +125,7 @@ pub struct CarriedSocket {
     // The bytes that had come when a command was last accepted.
     begun: u64,
     waiting: WaitingOutput,
+    idle: Idleness,
     sizes: ReplySizes,
 }
 
@@ -137,6 +140,7 @@ impl Drop for CarriedSocket {
             rest: _,
             begun: _,
             waiting: _,
+            idle: _,
             sizes: _,
         } = self;
         writer.write_out(&mut Vec::new(alloc));
@@ -179,6 +183,7 @@ impl CarriedSocket {
             rest,
             begun,
             waiting,
+            idle,
             sizes,
         } = self;
         reader.set_readable();
@@ -192,6 +197,7 @@ impl CarriedSocket {
                 client.sizes = sizes;
                 client.unfinished = unfinished;
                 client.waiting = waiting;
+                client.idle = idle;
                 Ok(client)
             }
             Err((error, reader, writer, rest)) => Err((
@@ -205,6 +211,7 @@ impl CarriedSocket {
                     rest,
                     begun,
                     waiting,
+                    idle,
                     sizes,
                 },
             )),
@@ -242,6 +249,8 @@ pub(crate) struct ClientConnection {
     // The bytes that came since.
     unfinished: u64,
     waiting: WaitingOutput,
+    // Noted only where idle clients are closed.
+    idle: Idleness,
     sizes: ReplySizes,
     // What the room knows of its charge.
     charged: u64,
@@ -264,6 +273,7 @@ impl Drop for ClientConnection {
             begun: _,
             unfinished: _,
             waiting: _,
+            idle: _,
             sizes: _,
             charged: _,
         } = self;
@@ -291,6 +301,7 @@ impl ClientConnection {
             begun: 0,
             unfinished: 0,
             waiting: WaitingOutput::new(),
+            idle: Idleness::new(),
             sizes: ReplySizes::new(),
             charged: 0,
         }
@@ -387,6 +398,7 @@ impl ClientConnection {
             begun,
             unfinished,
             waiting,
+            idle,
             sizes,
             charged: _,
             stage: _,
@@ -412,6 +424,7 @@ impl ClientConnection {
             rest,
             begun,
             waiting,
+            idle,
             sizes,
         }
     }
@@ -512,6 +525,7 @@ impl ClientConnection {
             SocketStage::Lingering { .. } => {}
         }
         self.note_waiting(round.now);
+        self.note_rest(round);
         if matches!(self.stage, SocketStage::Leaving { .. })
             && round.carries_over
             && self.may_carry_over()
@@ -546,6 +560,39 @@ impl ClientConnection {
         self.waiting.note(bytes, now);
         let told = if bytes > MAX_USUAL { bytes } else { 0 };
         self.counted.open_socket.note_waiting(told);
+    }
+
+    // A socket that leaves keeps what was noted: it may go over.
+    fn note_rest(&mut self, round: ClientRound<'_>)
+        ensures engine { self.new.engine ≡ self.old.engine }
+        ensures stage { self.new.stage ≡ self.old.stage }
+    {
+        if round.idle_ms == 0 || !matches!(self.stage, SocketStage::Served) {
+            return;
+        }
+        let has_written = !self.engine.writer().has_buffered();
+        self.idle.note(ClientSight {
+            now: round.now,
+            came: self.engine.reader().count(),
+            is_at_rest: has_written && self.engine.is_at_rest(),
+        });
+    }
+
+    /// Whether it is served, and its client has been idle for this many milliseconds; 0 is never.
+    pub(crate) fn is_idle(&self, now: u64, ms: u64) -> bool
+        ensures { IsTrue result ↔ IsIdleFor now ms self.now.stage self.now.idle }
+    {
+        ms > 0 && matches!(self.stage, SocketStage::Served) && self.idle.lasts(now, ms)
+    }
+
+    /// Ends its input behind what has come, since its client is idle. That is counted.
+    pub(crate) fn end_idle(&mut self)
+        ensures engine { self.new.engine ≡ self.old.engine }
+        ensures stage { self.new.stage ≡ self.old.stage }
+    {
+        self.counted.open_socket.count_idle();
+        self.idle = Idleness::new();
+        self.end_input();
     }
 
     // Once it takes in nothing more, its answers don't wait for its socket: they go over with it.

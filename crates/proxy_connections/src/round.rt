@@ -25,6 +25,8 @@ pub struct Round<'a> {
     pub carries_over: bool,
     /// Whether answers to clients that take in nothing more may be buffered without a bound.
     pub buffers_all: bool,
+    /// A client that is idle for this many milliseconds is closed; 0: none is.
+    pub idle_ms: u64,
 }
 
 /// A worker's round, as far as it is of one host.

@@ -1,9 +1,9 @@
 //! The clients and hosts of a worker, and the turns by which these are stepped.
 ghost use Rattle.std.specs.Bool.{OnTrue};
-ghost use Rattle.std.specs.Prelude.{◌≡◌, ◌<◌, ◌+◌, [], IfOk, IfSome, None, OnOk, length, map};
+ghost use Rattle.std.specs.Prelude.{◌≡◌, ◌↔◌, ◌<◌, ◌+◌, [], IfOk, IfSome, IsTrue, None, OnOk, length, map};
 ghost use Rattle.slab.specs.Slab.{HasRoomFor};
 ghost use Rattle.proxy_notices.specs.Places.{hosts_of};
-ghost use Rattle.proxy_connections.specs.WorkerConnections.{AddsClient, ChangesClient, ChangesHost, HasFailed, HasNewClient, IsMostStalled, IsNewcomer, KeepsClients, LetsGo, MakesRoom, MayCarry, MayClose, NoneIsStalled, RemovesClient, RiseTo, ServesHosts, number_of, steps_of};
+ghost use Rattle.proxy_connections.specs.WorkerConnections.{AddsClient, ChangesClient, ChangesHost, HasFailed, HasIdle, HasNewClient, IsMostStalled, IsNewcomer, KeepsClients, LetsGo, MakesRoom, MayCarry, MayClose, NoneIsStalled, RemovesClient, RiseTo, ServesHosts, number_of, steps_of};
 
 use crate::client_connection::{
     CarriedSocket, ClientConnection, ClientRound, Lent, NewSocket, Opening, Stepped,
@@ -339,7 +339,7 @@ impl<'a> WorkerConnections<'a> {
         ensures stay { KeepsClients self.old.clients self.new.clients }
         ensures there { HasNewClient self.old self.new }
     {
-        begin_input(&mut client, round.ends_inputs);
+        begin_input(&mut client, round);
         let conn = client.conn();
         let key = self.clients.insert_reserved(client);
         round.notices.add_client(conn, self.place.index, key);
@@ -389,6 +389,24 @@ impl<'a> WorkerConnections<'a> {
         };
         client.end_input();
         self.ready.make_ready(key);
+    }
+
+    /// Ends the input of the client with this key behind the bytes that have come, where it is served and has been idle for
+    /// `idle_ms` of the round; 0 is never. True: so it is, and that is counted.
+    pub fn end_idle(&mut self, round: Round<'_>, key: usize) -> bool
+        ensures changes { ChangesClient key self.old self.new }
+        ensures ends { IsTrue result
+            ↔ HasIdle round.entry.now round.entry.idle_ms self.old.clients key }
+    {
+        let Some(client) = self.clients.get_mut(key) else {
+            return false;
+        };
+        let is_idle = client.is_idle(round.now, round.idle_ms);
+        if is_idle {
+            client.end_idle();
+            self.ready.make_ready(key);
+        }
+        is_idle
     }
 
     /// Steps the client with this key. `None`: it can't make progress now, or there is no such client. It is ready again
@@ -535,6 +553,7 @@ fn client_round(round: Round<'_>, reserve: u64) -> ClientRound<'_> {
         most_parts: round.most_parts,
         carries_over: round.carries_over,
         buffers_all: round.buffers_all,
+        idle_ms: round.idle_ms,
     }
 }
 
@@ -570,11 +589,14 @@ fn make_told_ready(ready: &mut ReadyClients, notices: &Notices, worker: usize) {
     }
 }
 
-fn begin_input(client: &mut ClientConnection, ends_input: bool)
+// A carried-over client may have been idle for long enough: no generation need be old for that.
+fn begin_input(client: &mut ClientConnection, round: Round<'_>)
     ensures { client.new.engine ≡ client.old.engine }
 {
-    if ends_input {
+    if round.ends_inputs {
         client.end_input();
+    } else if client.is_idle(round.now, round.idle_ms) {
+        client.end_idle();
     }
 }
 

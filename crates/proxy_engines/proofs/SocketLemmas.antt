@@ -10,13 +10,13 @@ use Rattle.resp_core.proofs.CallerLemmas as resp_core
 use Rattle.splitter.specs.Request.{Request, read}
 use Rattle.splitter.specs.Requests.{AreRequests, finishes, up_to_last}
 use Rattle.splitter.proofs.CallerLemmas as splits
-use Rattle.close_behind.specs.CloseBehind.{Behind, NoneCloses, closes_behind, up_to_closing}
+use Rattle.close_behind.specs.CloseBehind.{Behind, NoneCloses, up_to_closing}
 use Rattle.close_behind.proofs.CallerLemmas.{none_closes-append, up_to_closing-first}
 use Rattle.proxy_history.specs.History.{History}
 use Rattle.proxy_history.specs.Output.{transcript}
 use Rattle.proxy_devices.specs.Device.{Counts}
 use Rattle.proxy_engines.specs.Ends.{RestState, Holds, IsCut, end_with}
-use Rattle.proxy_engines.specs.Client.{Client, Carries, ClosesAt, IsFinished, IsAtStage, IsDone, LastCloses, MayGoOn, NoneFinishes, asked_requests, waiting_requests, intake_of}
+use Rattle.proxy_engines.specs.Client.{Client, Carries, IsFinished, IsAtStage, IsDone, LastCloses, MayGoOn, NoneFinishes, asked_requests, waiting_requests, intake_of}
 use Rattle.proxy_engines.specs.Socket.{IsLeft, Past, WentOn, CarriesOn, asked_before, said_before, SocketBegins, SocketMoves, SocketStays, SocketGoesOver, SocketAsksInOrder, SocketAnswersInOrder, SocketCloses, SocketClosesAnswered, SocketEndsWhole}
 use Rattle.proxy_engines.specs.declared.client.Stage.{Stage}
 use Rattle.proxy_engines.proofs.ClientMoves.{carries_beside}

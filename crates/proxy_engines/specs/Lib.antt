@@ -15,3 +15,4 @@ pub mod Laws
 pub mod Logs
 pub mod Lends
 pub mod Keeps
+pub mod AtRest

@@ -1,5 +1,5 @@
 -- What one turn does to the steps of its caller.
-use Rattle.std.specs.Prelude.{◌≡◌, ◌≤◌, ◌⊎◌, ⊤, ℕ, Bool, true, false, if◌then◌else◌, List, ◌∷◌, length, Result, Ok, Err}
+use Rattle.std.specs.Prelude.{◌≡◌, ◌≤◌, ⊤, ℕ, Bool, true, false, if◌then◌else◌, List, ◌∷◌, length, Result, Ok, Err}
 use Rattle.journal_core.specs.Journal.{step_by}
 use Rattle.ticket_gate.specs.Journal.{StartsWith}
 use Rattle.proxy_history.specs.Setting.{max_steps}

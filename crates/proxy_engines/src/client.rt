@@ -139,6 +139,7 @@ impl<R: ReadTally, W: WriteTally> Model for ClientEngine<R, W> {
 impl<R: ReadTally, W: WriteTally> ClientEngine<R, W> {
     ghost use Rattle.proxy_engines.specs.Client.{AwaitsBytes, AwaitsReplies, Client, Carries, ClosesFirst, Cuts, Goes, HandsNothing, HasNext, HasNoFault, HasSameCounts, IsReadOut, IsHeldBack, IsIdle, IsLive, IsOver, MayGoOn, TakesNothing};
     ghost use Rattle.proxy_engines.specs.ClientSteps.{AcceptsOne, EndsOnce, FetchesNext, HandsDue, HandsOne, LooksForNext, MovesClient, OffersOne, ReadsClient, StopsReading, TakesIn, TellsStep, WritesClient};
+    ghost use Rattle.proxy_engines.specs.AtRest.{IsAtRest};
     ghost use Rattle.proxy_history.specs.declared.refusal.Refusal.{Refusal};
     ghost use Rattle.splitter.specs.declared.request.Request.{Request};
     ghost use Rattle.proxy_engines.specs.Lends.{lends_client_reader, lends_client_writer, with_client_reader, with_client_writer};
@@ -609,6 +610,18 @@ impl<R: ReadTally, W: WriteTally> ClientEngine<R, W> {
         ensures { result ≡ self.now.accepted - self.now.handed }
     {
         self.accepted.saturating_sub(self.handed)
+    }
+
+    /// Whether it owes nothing and is owed nothing: each accepted request is answered, each answer is written, and no request
+    /// or byte of one waits.
+    pub fn is_at_rest(&self) -> bool
+        ensures yes { result ≡ true → IsAtRest self.now }
+        ensures no { result ≡ false → IsAtRest self.now → ⊥ }
+    {
+        self.unanswered() == 0
+            && self.outbox.is_empty()
+            && self.next.is_none()
+            && self.inbox.is_used_up()
     }
 
     /// The connection's number.

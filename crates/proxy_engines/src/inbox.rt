@@ -1,4 +1,4 @@
-ghost use Rattle.std.specs.Prelude.{true, ◌≡◌, ◌≢◌, ◌≤◌, ◌↔◌, ◌++◌, ◌∷◌, ℕ, List, [], length, Some, None, IfOk, IfErr, IfSome, IfNone, OnErr, OnOk};
+ghost use Rattle.std.specs.Prelude.{true, false, ◌≡◌, ◌≢◌, ◌≤◌, ◌↔◌, ◌++◌, ◌∷◌, ℕ, List, [], length, Some, None, IfOk, IfErr, IfSome, IfNone, OnErr, OnOk};
 ghost use Rattle.std.specs.Borrow.{sem};
 ghost use Rattle.proxy_devices.specs.Device.{reader_state};
 ghost use Rattle.resp_core.specs.Command.{command_of};
@@ -124,6 +124,7 @@ impl<R: ReadTally> Model for Inbox<R> {
 }
 
 impl<R: ReadTally> Inbox<R> {
+    ghost use Rattle.proxy_engines.specs.AtRest.{IsUsedUp};
     ghost use Rattle.proxy_engines.specs.Ends.{GivesNext, Holds, IsCut, KeepsReader, ReadsOnce};
     ghost use Rattle.proxy_engines.specs.Lends.{lends_reader, with_reader};
 
@@ -240,6 +241,14 @@ impl<R: ReadTally> Inbox<R> {
         ensures { TellsLimit self.now.values.refusal result }
     {
         self.passed
+    }
+
+    /// Whether a request was made of each byte that was read.
+    pub(crate) fn is_used_up(&self) -> bool
+        ensures yes { result ≡ true → IsUsedUp self.now }
+        ensures no { result ≡ false → IsUsedUp self.now → ⊥ }
+    {
+        self.fresh == 0 && self.values.held() == 0
     }
 
     // Doubles the buffer if the last read filled it, and halves it if an eighth was enough, as memory allows.

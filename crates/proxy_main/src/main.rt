@@ -33,6 +33,9 @@ use std::{env, io};
 // The status of a bad command line.
 const BAD_COMMAND_LINE: u8 = 2;
 
+// Set by who started the program with SIGTERM blocked.
+const SIGNALS: &str = "REDPROXY_SIGNALS_BLOCKED";
+
 // Serves one client on standard input and output. Returns the status.
 fn run_local<R: Runtime + AllocGlobal + Wait>(rt: &R) -> u8 {
     match local_run(rt, rt.alloc(), rt.reader(), io::writer(rt)) {
@@ -87,6 +90,8 @@ fn serve_by<
     let ServeOptions {
         connections,
         lines,
+        idle_ms,
+        drain_after_ms,
         metrics,
         behind,
     } = options;
@@ -99,8 +104,11 @@ fn serve_by<
     let options = Options {
         admin: admin(rt, metrics)?,
         status: File::open(rt, "/proc/self/status").ok(),
+        is_term_blocked: env::var(rt, SIGNALS).is_ok(),
         lines,
         connections,
+        idle_ms,
+        drain_after_ms,
         marks: Marks::full(),
         behind,
         log,

@@ -3,7 +3,7 @@ use Rattle.std.specs.Prelude.{ℕ, ◌+◌, ◌-◌, ◌^◌, min, ◌==◌, Boo
 use Rattle.proxy_stats.specs.declared.tally.HostCounts.{HostCounts}
 use Rattle.proxy_stats.specs.declared.load.HostLoad.{HostLoad}
 use Rattle.proxy_pages.specs.declared.metric.Number.{Number}
-use Rattle.proxy_pages.specs.declared.metric.Number.TheVariants.{Accepted, Handed, Ejections, Kept, Panic, Connections, Closed, Generations, Draining, Turns, Ready, Ending, Resident, Files, Began}
+use Rattle.proxy_pages.specs.declared.metric.Number.TheVariants.{Accepted, Handed, Ejections, Kept, Panic, Connections, Closed, Generations, Draining, Turns, Ready, Ending, Resident, Files, Began, Idle}
 use Rattle.proxy_pages.specs.declared.metric.HostNumber.{HostNumber}
 use Rattle.proxy_pages.specs.declared.metric.HostNumber.TheVariants.{Sent, Answered, Faults, Lost, Waiting, Flying, Out}
 use Rattle.proxy_pages.specs.declared.metric.JournalNumber.{JournalNumber}
@@ -29,6 +29,7 @@ number_of s Kept = s.counts.kept
 number_of s Panic = bit s.serving.load.in_panic
 number_of s Connections = s.connections
 number_of s Closed = s.closed
+number_of s Idle = s.idle_closed
 number_of s Generations = s.generations
 number_of s Draining = s.draining_count
 number_of s Turns = capped (capped (s.past_steps + s.serving.steps) + s.draining.steps)

@@ -8,10 +8,11 @@ use Rattle.proxy_stats.specs.declared.tally.Counts.{Counts}
 use Rattle.proxy_serve_core.specs.FaultLog.{faults_at, of_cause}
 use Rattle.proxy_serve_core.specs.declared.fault_log.FaultCause.{FaultCause}
 use Rattle.proxy_serve_core.specs.declared.fault_log.HostFaults.{HostFaults}
+use Rattle.proxy_serve_core.specs.declared.refused_sockets.RefusedSockets.{RefusedSockets}
 use Rattle.proxy_pages.specs.declared.metric.Kind.{Kind}
 use Rattle.proxy_pages.specs.declared.metric.Kind.TheVariants.{Counter, Gauge, Histogram as HistogramKind}
 use Rattle.proxy_pages.specs.declared.metric.Numbers.{Numbers}
-use Rattle.proxy_pages.specs.declared.metric.Numbers.TheVariants.{Build, One, ByAnswer, ByCause, ByHost, ByHostFault, Out as ByOut, ByJournal, Durations, Cpu}
+use Rattle.proxy_pages.specs.declared.metric.Numbers.TheVariants.{Build, One, ByAnswer, ByCause, ByHost, ByHostFault, Out as ByOut, ByJournal, Durations, Cpu, ByRefusal}
 use Rattle.proxy_pages.specs.declared.metric.HostNumber.{HostNumber}
 use Rattle.proxy_pages.specs.declared.metric.HostNumber.TheVariants.{Sent, Answered, Faults, Lost, Waiting, Flying, Out}
 use Rattle.proxy_pages.specs.declared.snapshot.About.{About}
@@ -61,6 +62,13 @@ causes_text name c =
     labelled_text name (codes "cause") (codes "upstream_failure") c.lost
     ++ labelled_text name (codes "cause") (codes "no_upstream_host") c.no_host
     ++ labelled_text name (codes "cause") (codes "proxy_busy") c.busy
+
+-- sockets of clients that found no room, by the cause
+abbrev pub refusals_text : List ℕ → RefusedSockets → List ℕ
+refusals_text name refused =
+    labelled_text name (codes "cause") (codes "full") refused.full.count
+    ++ labelled_text name (codes "cause") (codes "no_file_number") refused.no_file.count
+    ++ labelled_text name (codes "cause") (codes "no_memory") refused.no_memory.count
 
 -- a number of each host
 abbrev pub host_numbers_text : About → Snapshot → List ℕ → HostNumber → List ℕ
@@ -127,6 +135,7 @@ numbers_by about s name Build = build_text name about.version.now about.kit.now
 numbers_by about s name (One number) = plain_text name [] (number_of s number)
 numbers_by about s name ByAnswer = answers_text name s.counts
 numbers_by about s name ByCause = causes_text name s.counts
+numbers_by about s name ByRefusal = refusals_text name s.refused
 numbers_by about s name (ByHost number) = host_numbers_text about s name number
 numbers_by about s name ByHostFault = faults_text about s name
 numbers_by about s name ByOut = outs_text about s name

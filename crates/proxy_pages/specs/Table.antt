@@ -3,7 +3,7 @@ use Rattle.std.specs.Prelude.{ℕ, List, [], ◌∷◌, codes}
 use Rattle.proxy_pages.specs.declared.metric.Kind.{Kind}
 use Rattle.proxy_pages.specs.declared.metric.Kind.TheVariants.{Counter, Gauge, Histogram as HistogramKind}
 use Rattle.proxy_pages.specs.declared.metric.Numbers.{Numbers}
-use Rattle.proxy_pages.specs.declared.metric.Numbers.TheVariants.{Build, One, ByAnswer, ByCause, ByHost, ByHostFault, Out, ByJournal, Durations, Cpu}
+use Rattle.proxy_pages.specs.declared.metric.Numbers.TheVariants.{Build, One, ByAnswer, ByCause, ByHost, ByHostFault, Out, ByJournal, Durations, Cpu, ByRefusal}
 use Rattle.proxy_pages.specs.declared.metric.Number.TheVariants as number
 use Rattle.proxy_pages.specs.declared.metric.HostNumber.TheVariants as host
 use Rattle.proxy_pages.specs.declared.metric.JournalNumber.TheVariants as journal
@@ -45,6 +45,8 @@ metrics =
     ∷ row (codes "redproxy_panic") Gauge (codes "Whether so few hosts are available that all are used.") (One number.Panic)
     ∷ row (codes "redproxy_client_connections") Gauge (codes "Sockets of clients that are open.") (One number.Connections)
     ∷ row (codes "redproxy_client_connections_closed_total") Counter (codes "Connections of clients that were closed.") (One number.Closed)
+    ∷ row (codes "redproxy_idle_closed_total") Counter (codes "Connections that were ended since their clients were idle.") (One number.Idle)
+    ∷ row (codes "redproxy_clients_refused_total") Counter (codes "Sockets of clients that found no room, by the cause.") ByRefusal
     ∷ row (codes "redproxy_generations_total") Counter (codes "Generations that were opened.") (One number.Generations)
     ∷ row (codes "redproxy_generations_draining") Gauge (codes "Generations that take in nothing more and have connections.") (One number.Draining)
     ∷ row (codes "redproxy_turns_total") Counter (codes "Turns of the core that were answered.") (One number.Turns)

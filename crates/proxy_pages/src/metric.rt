@@ -28,6 +28,7 @@ pub(crate) enum Number {
     Panic,
     Connections,
     Closed,
+    Idle,
     Generations,
     Draining,
     Turns,
@@ -71,6 +72,9 @@ pub(crate) enum Numbers {
 
     /// One for each cause of the proxy's own errors for parts.
     ByCause,
+
+    /// One for each cause for which clients' sockets found no room.
+    ByRefusal,
 
     /// One for each host.
     ByHost(HostNumber),
@@ -151,7 +155,7 @@ pub(crate) fn fault_word(cause: FaultCause) -> &'static str
 }
 
 /// The number of metrics.
-pub(crate) const METRIC_COUNT: usize = 29;
+pub(crate) const METRIC_COUNT: usize = 31;
 
 /// All metrics, in the order of the page.
 pub(crate) const METRICS: [Metric; METRIC_COUNT] = [
@@ -262,6 +266,18 @@ pub(crate) const METRICS: [Metric; METRIC_COUNT] = [
         kind: Kind::Counter,
         help: "Connections of clients that were closed.",
         numbers: Numbers::One(Number::Closed),
+    },
+    Metric {
+        name: "redproxy_idle_closed_total",
+        kind: Kind::Counter,
+        help: "Connections that were ended since their clients were idle.",
+        numbers: Numbers::One(Number::Idle),
+    },
+    Metric {
+        name: "redproxy_clients_refused_total",
+        kind: Kind::Counter,
+        help: "Sockets of clients that found no room, by the cause.",
+        numbers: Numbers::ByRefusal,
     },
     Metric {
         name: "redproxy_generations_total",

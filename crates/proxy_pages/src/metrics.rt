@@ -1,7 +1,7 @@
 //! The page of numbers, in Prometheus's text format.
 ghost use Rattle.std.specs.Prelude.{◌≡◌, ◌++◌, ◌<◌, IfOk, OnOk, map, length};
 ghost use Rattle.std.specs.List.{concat};
-ghost use Rattle.proxy_pages.specs.Pages.{head_text, metric_text, metrics_text, numbers_text, answers_text, causes_text, host_numbers_text, host_faults_text, fault_word, faults_text, lines_out_text, host_outs_text, outs_text, durations_text, bounds_text, sum_text, cpu_text};
+ghost use Rattle.proxy_pages.specs.Pages.{head_text, metric_text, metrics_text, numbers_text, answers_text, causes_text, host_numbers_text, host_faults_text, fault_word, faults_text, lines_out_text, host_outs_text, outs_text, durations_text, bounds_text, sum_text, cpu_text, refusals_text};
 ghost use Rattle.proxy_pages.specs.Numbers.{bit};
 ghost use Rattle.proxy_pages.specs.Table.{row_of};
 ghost use Rattle.proxy_pages.specs.Lines.{fault_text};
@@ -15,7 +15,7 @@ use crate::metric::{HostNumber, METRICS, Metric, Numbers, answer_word, fault_wor
 use crate::snapshot::{About, Snapshot};
 use limits::MAX_HOSTS;
 use proxy_histogram::{BOUNDS, BOUNDS_MS, Histogram};
-use proxy_serve_core::{FaultCause, HostFaults};
+use proxy_serve_core::{FaultCause, HostFaults, RefusedSockets};
 use proxy_stats::{Counts, LOCAL_KINDS};
 use std::alloc::{AllocError, Global};
 
@@ -95,6 +95,7 @@ impl Metric {
             Numbers::One(number) => push_plain(page, self.name, "", number.of(snapshot)),
             Numbers::ByAnswer => push_answers(page, self.name, &snapshot.counts),
             Numbers::ByCause => push_causes(page, self.name, &snapshot.counts),
+            Numbers::ByRefusal => push_refusals(page, self.name, &snapshot.refused),
             Numbers::ByHost(number) => push_hosts(page, self.name, number, about, snapshot),
             Numbers::ByHostFault => push_faults(page, self.name, about, snapshot),
             Numbers::Out => push_outs(page, self.name, about, snapshot),
@@ -127,6 +128,25 @@ fn push_causes(page: &mut Vec<u8>, name: &str, counts: &Counts) -> Result<(), Al
     push_labelled(page, name, "cause", "upstream_failure", counts.lost)?;
     push_labelled(page, name, "cause", "no_upstream_host", counts.no_host)?;
     push_labelled(page, name, "cause", "proxy_busy", counts.busy)
+}
+
+fn push_refusals(
+    page: &mut Vec<u8>,
+    name: &str,
+    refused: &RefusedSockets,
+) -> Result<(), AllocError>
+    ensures { OnOk result (page.new.items ≡ page.old.items
+        ++ refusals_text name.now refused.now) }
+{
+    push_labelled(page, name, "cause", "full", refused.full.count)?;
+    push_labelled(
+        page,
+        name,
+        "cause",
+        "no_file_number",
+        refused.no_file.count,
+    )?;
+    push_labelled(page, name, "cause", "no_memory", refused.no_memory.count)
 }
 
 fn push_hosts(

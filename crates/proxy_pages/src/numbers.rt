@@ -20,6 +20,7 @@ impl Number {
             Number::Panic => u64::from(serving.load.in_panic),
             Number::Connections => snapshot.connections,
             Number::Closed => snapshot.closed,
+            Number::Idle => snapshot.idle_closed,
             Number::Generations => snapshot.generations,
             Number::Draining => snapshot.draining_count,
             Number::Turns => snapshot

@@ -5,7 +5,7 @@ ghost use Rattle.proxy_pages.specs.Numbers.{is_out_in, lines_shown};
 use limits::MAX_HOSTS;
 use proxy_config::Host;
 use proxy_histogram::Histogram;
-use proxy_serve_core::HostFaults;
+use proxy_serve_core::{HostFaults, RefusedSockets};
 use proxy_stats::{Counts, Load};
 
 /// The most lines of generations that are shown one by one.
@@ -131,6 +131,12 @@ pub struct Snapshot {
 
     /// The number of closed client connections.
     pub closed: u64,
+
+    /// The number of connections that were ended since their clients were idle.
+    pub idle_closed: u64,
+
+    /// The sockets of clients that found no room.
+    pub refused: RefusedSockets,
 
     /// The faults of each host's links, by its number, over all generations.
     pub faults: [HostFaults; MAX_HOSTS],

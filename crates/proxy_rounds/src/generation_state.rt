@@ -241,6 +241,7 @@ impl<'a> GenerationState<'a> {
             ends_inputs: mode.ends_inputs,
             carries_over: self.line.runs(),
             buffers_all: !self.line.has_too_much_waiting(),
+            idle_ms: self.line.idle_ms(),
         }
     }
 

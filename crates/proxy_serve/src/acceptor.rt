@@ -7,7 +7,7 @@ use mio::net::TcpListener;
 use mio::{Events, Interest, Poll, Token, Waker};
 use proxy_config::Config;
 use proxy_rounds::Server;
-use proxy_serve_core::Asked;
+use proxy_serve_core::{Asked, SocketRefusal, TermEffect};
 use proxy_server::{Level, Stop, now};
 use std::fs::File;
 use std::io;
@@ -82,24 +82,38 @@ impl Acceptor {
         Ok((acceptor, waker))
     }
 
-    /// Logs the start. What SIGTERM does depends on how the program was started.
-    pub(crate) fn log_start<R: Eprint>(&mut self, rt: &R, server: &Server, config: &Config) {
+    /// Logs the start, with what SIGTERM does.
+    pub(crate) fn log_start<R: Eprint>(
+        &self,
+        rt: &R,
+        server: &Server,
+        config: &Config,
+        effect: TermEffect,
+    ) {
         let (tag, lines) = (server.log().tag(Level::Info), server.lines());
         let (address, hosts, workers) = (self.address, config.hosts.len(), config.workers);
-        let ends = if self.signals.is_term_orderly() {
-            "drains"
-        } else {
-            "ends it at once"
+        let ends = match effect {
+            TermEffect::Drains => "SIGTERM drains",
+            TermEffect::Ends => "SIGTERM ends it at once",
+            TermEffect::Nothing => "SIGTERM does nothing: it isn't blocked in the first process",
+            TermEffect::Unseen => {
+                "signals aren't looked at, since /proc/self/status can't be read: SIGTERM ends it at once, or does nothing if it is blocked"
+            }
         };
         let _ = if lines == 1 {
             eprintln!(rt;
-                "{tag}redproxy: listening on {address}, {hosts} hosts, {workers} workers; SIGTERM {ends}"
+                "{tag}redproxy: listening on {address}, {hosts} hosts, {workers} workers; {ends}"
             )
         } else {
             eprintln!(rt;
-                "{tag}redproxy: listening on {address}, {hosts} hosts, {workers} workers in each of {lines} lines; SIGTERM {ends}"
+                "{tag}redproxy: listening on {address}, {hosts} hosts, {workers} workers in each of {lines} lines; {ends}"
             )
         };
+    }
+
+    /// What SIGTERM does to the process.
+    pub(crate) fn effect_of_term(&mut self) -> TermEffect {
+        self.signals.effect_of_term()
     }
 
     // Waits at most `PAUSE_MS` milliseconds.
@@ -121,10 +135,11 @@ impl Acceptor {
         events: &mut Events,
     ) -> Result<(), Stop> {
         self.wait(events)?;
-        self.accept_all(rt, server)?;
-        match self.signals.asked(now(rt)) {
-            Asked::Nothing => {}
-            Asked::Drain => server.drain(rt),
+        let moment = now(rt);
+        self.accept_all(rt, server, moment)?;
+        match self.signals.asked(moment) {
+            Asked::Nothing => server.follow_plan(rt, moment),
+            Asked::Drain => server.order_drain(rt, moment),
             Asked::Quit => server.quit(),
         }
         if server.is_draining() {
@@ -134,16 +149,25 @@ impl Acceptor {
         Ok(())
     }
 
-    fn accept_all<R: Wait>(&mut self, rt: &R, server: &Server) -> Result<(), Stop> {
+    fn accept_all<R: Wait + Eprint>(
+        &mut self,
+        rt: &R,
+        server: &Server,
+        moment: u64,
+    ) -> Result<(), Stop> {
         let Some(listener) = &self.listener else {
             return Ok(());
         };
         self.shares.note_gone(server);
         for _ in 0..MAX_TAKEN {
             match FreshStream::accept(listener) {
-                Ok(stream) => self.shares.give(rt, server, stream),
+                Ok(stream) => self.shares.give(rt, server, stream, moment),
                 Err(error) => {
-                    if error.kind() == ErrorKind::WouldBlock || has_no_room(&error) {
+                    if error.kind() == ErrorKind::WouldBlock {
+                        break;
+                    }
+                    if let Some(cause) = want_of_room(&error) {
+                        server.note_refused(rt, cause, moment);
                         break;
                     }
                     // (the peer may be gone already)
@@ -159,11 +183,12 @@ impl Acceptor {
     }
 }
 
-// Whether accepting failed for want of room alone: it is tried again later.
-fn has_no_room(error: &io::Error) -> bool {
+// For want of which room accepting failed, if for that alone: it is tried again later.
+fn want_of_room(error: &io::Error) -> Option<SocketRefusal> {
     match error.raw_os_error() {
-        Some(number) => matches!(number, ENOMEM | ENFILE | EMFILE | ENOBUFS),
-        None => false,
+        Some(ENFILE | EMFILE) => Some(SocketRefusal::NoFile),
+        Some(ENOMEM | ENOBUFS) => Some(SocketRefusal::NoMemory),
+        Some(_) | None => None,
     }
 }
 

@@ -12,10 +12,12 @@ use proxy_config::Config;
 use proxy_exit_status::Ending;
 use proxy_generations::{Due, Marks};
 use proxy_rounds::{LineContext, ServeRuntime, Server, run_generation};
+use proxy_serve_core::TermEffect;
 use proxy_server::{Extent, Inherited, Log, Stop};
 use proxy_stats::Counts;
 use std::alloc::{AllocError, Global};
 use std::fs::File;
+use std::io;
 use std::io::Write;
 use std::net::Net;
 use std::sync::Wait;
@@ -31,10 +33,16 @@ pub struct Options {
     pub admin: Option<Admin>,
     /// `/proc/self/status`, which shows pending signals; `None`: signals aren't heeded.
     pub status: Option<File>,
+    /// Whether who started the program says that SIGTERM is blocked: it doesn't serve where signals aren't heeded.
+    pub is_term_blocked: bool,
     /// The number of lines of generations, 1 to `MAX_LINES`, each with as many workers as the settings say.
     pub lines: u32,
     /// The number of closed connections after which it ends; 0 is never.
     pub connections: u64,
+    /// A client that is idle for this many milliseconds is closed; 0: none is.
+    pub idle_ms: u64,
+    /// A drain begins this many milliseconds after its order.
+    pub drain_after_ms: u64,
     /// The length of a journal at which the next one opens.
     pub marks: Marks,
     /// Behind which refused commands a connection is closed.
@@ -47,13 +55,14 @@ pub struct Options {
 /// `connections` closed connections. Then it writes the counts of the whole run and a newline:
 /// `accepted <a> handed <o> sent <s> answered <r> lost <l> ejections <e>`.
 ///
-/// It drains when SIGTERM or SIGINT waits for the process, by `status`: no further client is accepted, what has come is
-/// answered, and then each connection is closed. If both wait it ends at once.
+/// It drains when SIGTERM or SIGINT waits for the process, by `status`, `drain_after_ms` later: no further client is accepted,
+/// what has come is answered, and then each connection is closed. If both wait it ends at once.
 ///
 /// The next journal opens when one has reached the marks. At most `MAX_GENERATIONS` have connections at a time, and one more
 /// is kept.
 ///
-/// Stops with `Socket` (5), and what failed, where the listener, a poll or the writer fails. Stops with `Memory` (6)
+/// Stops with `Socket` (5), and what failed, where the listener, a poll or the writer fails, and at once where SIGTERM is
+/// blocked and `status` can't be read. Stops with `Memory` (6)
 /// where memory was refused at the start or 1,000 times in a row to one thing, and with `Spent` (7) where a gate has no
 /// ticket left. All threads have ended then.
 pub fn serve<R: ServeRuntime, W: Write>(
@@ -67,6 +76,14 @@ pub fn serve<R: ServeRuntime, W: Write>(
     let served = run_server(rt, alloc, listener, &config, options);
     drop(config);
     write_counts(&served?, output)
+}
+
+// Nothing but SIGKILL would end the program.
+fn unseen_signals() -> Stop {
+    Stop::socket(
+        "SIGTERM is blocked, and signals can't be seen in /proc/self/status",
+        io::Error::from(io::ErrorKind::NotFound),
+    )
 }
 
 fn open_admin<R: Net>(
@@ -91,8 +108,11 @@ fn run_server<R: ServeRuntime>(
     let Options {
         admin,
         status,
+        is_term_blocked,
         lines,
         connections,
+        idle_ms,
+        drain_after_ms,
         marks,
         behind,
         log,
@@ -101,9 +121,18 @@ fn run_server<R: ServeRuntime>(
     let lines = lines.clamp(1, MAX_LINES) as usize;
     let shares = Shares::new(alloc, lines, config.workers as usize)?;
     let (mut acceptor, waker) = Acceptor::open(rt, listener, config, shares, status)?;
-    let extent = Extent { lines, connections };
+    let effect = acceptor.effect_of_term();
+    if is_term_blocked && effect == TermEffect::Unseen {
+        return Err(unseen_signals());
+    }
+    let extent = Extent {
+        lines,
+        idle_ms,
+        drain_after_ms,
+        connections,
+    };
     let server = Server::new(alloc, config, waker, extent, log)?;
-    acceptor.log_start(rt, &server, config);
+    acceptor.log_start(rt, &server, config, effect);
     let serving = Serving {
         server: &server,
         config,
@@ -130,8 +159,11 @@ pub fn serve_run<R: ServeRuntime, W: Write>(
     let options = Options {
         admin: None,
         status: None,
+        is_term_blocked: false,
         lines: 1,
         connections,
+        idle_ms: 0,
+        drain_after_ms: 0,
         marks,
         behind: CloseBehind::none(),
         log: Log::new(false),

@@ -1,9 +1,9 @@
 //! Which line, and which worker of it, gets a socket.
 
 use fresh_stream::FreshStream;
-use open_sockets::LineSockets;
+use open_sockets::{LineSockets, NotAdmitted};
 use proxy_rounds::Server;
-use proxy_serve_core::RoundRobin;
+use proxy_serve_core::{RoundRobin, SocketRefusal};
 use std::alloc::{AllocError, Global};
 use std::sync::Wait;
 
@@ -35,14 +35,30 @@ impl Shares {
         }
     }
 
-    /// Gives the socket to a worker. One without room is closed.
-    pub(crate) fn give<R: Wait>(&mut self, rt: &R, server: &Server, stream: FreshStream) {
+    /// Gives the socket that came at this moment to a worker. One without room is closed, and that is told.
+    pub(crate) fn give<R: Wait + Eprint>(
+        &mut self,
+        rt: &R,
+        server: &Server,
+        stream: FreshStream,
+        moment: u64,
+    ) {
         let line = self.sockets.fewest();
         self.sockets.add(line);
-        let (Some(stream), Some(turn)) = (server.admit(line, stream), self.turns.get_mut(line))
-        else {
-            return;
+        let stream = match server.admit(line, stream) {
+            Ok(stream) => stream,
+            Err(error) => return tell_refused(rt, server, error, moment),
         };
-        server.push(rt, line, turn.take(), stream);
+        if let Some(turn) = self.turns.get_mut(line) {
+            server.push(rt, line, turn.take(), stream);
+        }
+    }
+}
+
+fn tell_refused<R: Wait + Eprint>(rt: &R, server: &Server, error: NotAdmitted, moment: u64) {
+    match error {
+        NotAdmitted::Full => server.note_refused(rt, SocketRefusal::Full, moment),
+        NotAdmitted::NoMemory => server.note_refused(rt, SocketRefusal::NoMemory, moment),
+        NotAdmitted::Draining => {}
     }
 }

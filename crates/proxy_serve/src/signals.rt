@@ -2,7 +2,7 @@
 ghost use Rattle.std.specs.Prelude.{◌≤◌, length};
 
 use limits::SIGNAL_MS;
-use proxy_serve_core::{Asked, asked_by_signals, is_term_blocked};
+use proxy_serve_core::{Asked, TermEffect, asked_by_signals, effect_of_term};
 use std::fs::File;
 use std::io::{Read, Seek, SeekFrom};
 
@@ -35,11 +35,11 @@ impl Signals {
         asked_by_signals(&text[..count])
     }
 
-    /// Whether SIGTERM drains the server, since it was blocked when the program was started.
-    pub(crate) fn is_term_orderly(&mut self) -> bool {
+    /// What SIGTERM does to the process.
+    pub(crate) fn effect_of_term(&mut self) -> TermEffect {
         let mut text = [0u8; MAX_STATUS];
         let count = self.read(&mut text);
-        is_term_blocked(&text[..count])
+        effect_of_term(&text[..count])
     }
 
     fn read(&mut self, text: &mut [u8]) -> usize

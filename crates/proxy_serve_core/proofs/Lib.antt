@@ -1,1 +1,2 @@
+mod IdlenessLemmas
 mod KeySetLemmas

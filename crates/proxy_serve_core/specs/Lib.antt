@@ -5,3 +5,6 @@ pub mod KeySet
 pub mod ReadyClients
 pub mod Signals
 pub mod KeyRange
+pub mod Idleness
+pub mod RefusedSockets
+pub mod DrainPlan

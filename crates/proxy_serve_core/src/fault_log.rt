@@ -42,12 +42,12 @@ pub struct LinkLoss {
     pub parts: u64,
 }
 
-/// A host's faults of one cause.
+/// Faults of one cause: those of a host, or sockets that found no room.
 #[derive(Clone, Copy, Debug, PartialEq, Eq)]
 pub struct CauseFaults {
     /// Their number; the greatest `u64` stands for any more.
     pub count: u64,
-    /// The parts lost by those that no line has told, likewise.
+    /// The parts lost by those that no line has told, likewise; of sockets their number.
     pub untold: u64,
     /// When a line of them was logged last, in milliseconds.
     pub logged_at: Option<u64>,
@@ -70,7 +70,7 @@ impl CauseFaults {
         }
     }
 
-    fn with_lost(self, parts: u64) -> CauseFaults
+    pub(crate) fn with_lost(self, parts: u64) -> CauseFaults
         ensures { result ≡ with_lost parts self }
     {
         CauseFaults {
@@ -80,7 +80,7 @@ impl CauseFaults {
     }
 
     // The parts of a line that is due, which is logged now.
-    fn take_line(&mut self, now: u64) -> Option<u64>
+    pub(crate) fn take_line(&mut self, now: u64) -> Option<u64>
         ensures line { result ≡ line_of now self.old }
         ensures logged { self.new ≡ logged now self.old }
     {

@@ -2,19 +2,25 @@
 //! clients a round looks at.
 #![tactic(auto)]
 
+mod drain_plan;
 mod ejection_log;
 mod fault_log;
+mod idleness;
 mod key_range;
 mod key_set;
 mod ready_clients;
 mod refusals;
+mod refused_sockets;
 mod round_robin;
 mod signals;
 
+pub use drain_plan::{DrainOrder, DrainPlan};
 pub use ejection_log::EjectionLog;
 pub use fault_log::{CauseFaults, FaultCause, FaultLog, HostFaults, LinkLoss};
+pub use idleness::{ClientSight, Idleness};
 pub use key_range::KeyRange;
 pub use ready_clients::ReadyClients;
 pub use refusals::Refusals;
+pub use refused_sockets::{RefusedSockets, SocketRefusal};
 pub use round_robin::RoundRobin;
-pub use signals::{Asked, asked_by_signals, is_term_blocked};
+pub use signals::{Asked, TermEffect, asked_by_signals, effect_of_term};

@@ -2,7 +2,7 @@
 //! `SigBlk`, as hexadecimal numbers in which signal n is bit n - 1.
 //!
 //! A signal blocked at the start, as by `env --block-signal=TERM`, waits and doesn't end the process.
-ghost use Rattle.std.specs.Prelude.{◌≡◌, ◌↔◌, ◌≤◌, ◌⊎◌, IsTrue};
+ghost use Rattle.std.specs.Prelude.{◌≡◌, ◌≢◌, ◌↔◌, ◌≤◌, ◌⊎◌, true, IfNone, IfSome, IsTrue};
 ghost use Rattle.proxy_serve_core.specs.Signals.{IsIn, sigint, sigterm};
 
 const INT: u32 = 2;
@@ -12,6 +12,12 @@ const TERM: u32 = 15;
 const WAITING: &[u8] = b"\nShdPnd:\t";
 
 const BLOCKED: &[u8] = b"\nSigBlk:\t";
+
+// The line of the process's number.
+const PROCESS: &[u8] = b"\nPid:\t";
+
+// The number of a container's first process.
+const FIRST: u64 = 1;
 
 /// What SIGTERM and SIGINT ask of the process.
 #[derive(Clone, Copy, Debug, PartialEq, Eq)]
@@ -51,15 +57,52 @@ fn has(signals: u64, signal: u32) -> bool
     signals >> (signal - 1) & 1 == 1
 }
 
-/// Whether SIGTERM would wait for the process with this status instead of ending it.
-pub fn is_term_blocked(status: &[u8]) -> bool {
-    has(number_behind(status, BLOCKED), TERM)
+/// What SIGTERM does to the process.
+#[derive(Clone, Copy, Debug, PartialEq, Eq)]
+pub enum TermEffect {
+    /// It was blocked at the start, and waits: the process drains.
+    Drains,
+    /// It ends the process at once.
+    Ends,
+    /// Nothing: it isn't blocked, and the process is the first of its container.
+    Nothing,
+    /// The status can't be read, so that signals aren't looked at: it ends the process at once, or does nothing.
+    Unseen,
+}
+
+/// What SIGTERM does to the process with this status. One without the line `SigBlk` couldn't be read.
+pub fn effect_of_term(status: &[u8]) -> TermEffect {
+    effect_by(
+        find_number(status, BLOCKED),
+        find_number(status, PROCESS) == Some(FIRST),
+    )
+}
+
+fn effect_by(blocked: Option<u64>, is_first: bool) -> TermEffect
+    ensures unseen { IfNone blocked (result ≡ TermEffect.Unseen) }
+    ensures seen { IfSome blocked (λ b. result ≢ TermEffect.Unseen) }
+    ensures drains { IfSome blocked (λ b. (result ≡ TermEffect.Drains) ↔ IsIn b sigterm) }
+    ensures nothing { IfSome blocked (λ b. (result ≡ TermEffect.Nothing)
+        ↔ ((is_first ≡ true) × (¬ IsIn b sigterm))) }
+{
+    let Some(signals) = blocked else {
+        return TermEffect::Unseen;
+    };
+    match (has(signals, TERM), is_first) {
+        (true, _) => TermEffect::Drains,
+        (false, true) => TermEffect::Nothing,
+        (false, false) => TermEffect::Ends,
+    }
 }
 
 fn number_behind(status: &[u8], name: &[u8]) -> u64 {
+    find_number(status, name).unwrap_or(0)
+}
+
+fn find_number(status: &[u8], name: &[u8]) -> Option<u64> {
     match behind(status, name) {
-        Some(digits) => number(digits),
-        None => 0,
+        Some(digits) => Some(number(digits)),
+        None => None,
     }
 }
 

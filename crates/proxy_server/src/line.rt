@@ -122,6 +122,11 @@ impl<C: Drop> Line<C> {
         self.process.sockets.has_too_much_waiting()
     }
 
+    /// A client that is idle for this many milliseconds is closed; 0: none is.
+    pub fn idle_ms(&self) -> u64 {
+        self.process.extent.idle_ms
+    }
+
     /// Whether the server drains.
     pub fn is_draining(&self) -> bool {
         self.process.sockets.is_draining()

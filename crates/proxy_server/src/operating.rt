@@ -20,9 +20,9 @@ impl<C: Drop> Operated for Server<C> {
         Server::snapshot(self, rt)
     }
 
-    fn obey<R: Wait + Eprint>(&self, rt: &R, order: Order) {
+    fn obey<R: Wait + Eprint>(&self, rt: &R, order: Order, moment: u64) {
         match order {
-            Order::Drain => self.drain(rt),
+            Order::Drain => self.order_drain(rt, moment),
             Order::Quit => self.quit(),
         }
     }

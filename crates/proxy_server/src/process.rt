@@ -6,15 +6,19 @@ use crate::stop::Stop;
 use byte_sum::ByteSum;
 use mio::Waker;
 use open_sockets::OpenSockets;
-use proxy_serve_core::FaultLog;
+use proxy_serve_core::{DrainPlan, FaultLog, RefusedSockets};
 use std::alloc::Global;
 use std::sync::{Arc, Mutex, Wait};
 
-/// The lines of a server, and its end.
+/// The lines of a server, which clients it closes, and its end.
 #[derive(Clone, Copy, Drop)]
 pub struct Extent {
     /// The number of lines of generations.
     pub lines: usize,
+    /// A client that is idle for this many milliseconds is closed; 0: none is.
+    pub idle_ms: u64,
+    /// A drain begins this many milliseconds after its order.
+    pub drain_after_ms: u64,
     /// The number of closed connections after which it ends; 0 is never.
     pub connections: u64,
 }
@@ -25,6 +29,9 @@ pub(crate) struct Process {
     stop: Mutex<Option<Stop>>,
     pub(crate) log: Log,
     pub(crate) faults: Mutex<FaultLog>,
+    pub(crate) refused: Mutex<RefusedSockets>,
+    pub(crate) drain_plan: Mutex<DrainPlan>,
+    pub(crate) extent: Extent,
     pub(crate) outs: Mutex<HostOuts>,
     // Of all journals.
     pub(crate) unfinished: Arc<ByteSum>,
@@ -37,6 +44,9 @@ impl Drop for Process {
             stop: _,
             log: _,
             faults: _,
+            refused: _,
+            drain_plan: _,
+            extent: _,
             outs: _,
             unfinished: _,
         } = self;
@@ -56,6 +66,9 @@ impl Process {
             stop: Mutex::new(None),
             log,
             faults: Mutex::new(FaultLog::new()),
+            refused: Mutex::new(RefusedSockets::NONE),
+            drain_plan: Mutex::new(DrainPlan::new()),
+            extent,
             outs: Mutex::new(HostOuts::new()),
             unfinished: Arc::new(alloc, ByteSum::new())?,
         })

@@ -5,11 +5,13 @@ use crate::process::{Extent, Process};
 use crate::stop::Stop;
 use crossbeam_utils::CachePadded;
 use fresh_stream::FreshStream;
+use limits::MAX_SOCKETS;
 use mio::Waker;
-use open_sockets::AdmittedStream;
+use open_sockets::{AdmittedStream, NotAdmitted};
 use proxy_config::Config;
 use proxy_histogram::Histogram;
 use proxy_pages::{LineHosts, MAX_LINES_SHOWN, ProcessUse, Snapshot};
+use proxy_serve_core::{DrainOrder, SocketRefusal};
 use proxy_stats::Counts;
 use std::alloc::Global;
 use std::sync::{Arc, Wait};
@@ -73,7 +75,11 @@ impl<C: Drop> Server<C> {
     }
 
     /// As [`OpenSockets::admit`](open_sockets::OpenSockets::admit).
-    pub fn admit(&self, line: usize, stream: FreshStream) -> Option<AdmittedStream> {
+    pub fn admit(
+        &self,
+        line: usize,
+        stream: FreshStream,
+    ) -> Result<AdmittedStream, NotAdmitted> {
         self.process.sockets.admit(line, stream)
     }
 
@@ -86,6 +92,50 @@ impl<C: Drop> Server<C> {
     pub fn push<R: Wait>(&self, rt: &R, line: usize, index: usize, stream: AdmittedStream) {
         if let Some(line) = self.line(line) {
             line.push(rt, index, stream);
+        }
+    }
+
+    /// Counts a client's socket that finds no room at this moment, and logs it if a line is due.
+    pub fn note_refused<R: Wait + Eprint>(&self, rt: &R, cause: SocketRefusal, now: u64) {
+        let Some(count) = self.process.refused.lock(rt).note(cause, now) else {
+            return;
+        };
+        let tag = self.process.log.tag(Level::Warning);
+        let _ = match cause {
+            SocketRefusal::Full => eprintln!(rt;
+                "{tag}redproxy: {MAX_SOCKETS} sockets of clients are open; closed for it: {count}"
+            ),
+            SocketRefusal::NoFile => eprintln!(rt;
+                "{tag}redproxy: no file number for a client's socket, which waits; tries: {count}"
+            ),
+            SocketRefusal::NoMemory => eprintln!(rt;
+                "{tag}redproxy: no memory for a client's socket, which waits; tries: {count}"
+            ),
+        };
+    }
+
+    /// Orders a drain at this moment: it begins once the delay of the command line is over, by `follow_plan`. Until then
+    /// `/ready` is 503, and clients are served as before. A later order changes nothing.
+    pub fn order_drain<R: Wait + Eprint>(&self, rt: &R, now: u64) {
+        let after_ms = self.process.extent.drain_after_ms;
+        let was_ordered = {
+            let mut plan = self.process.drain_plan.lock(rt);
+            let was_ordered = plan.is_ordered();
+            plan.order(DrainOrder { now, after_ms });
+            was_ordered
+        };
+        if after_ms > 0 && !was_ordered {
+            let tag = self.process.log.tag(Level::Notice);
+            let _ = eprintln!(rt; "{tag}redproxy: draining in {after_ms} ms");
+        }
+        self.follow_plan(rt, now);
+    }
+
+    /// Drains once that is due by the orders so far.
+    pub fn follow_plan<R: Wait + Eprint>(&self, rt: &R, now: u64) {
+        let is_due = self.process.drain_plan.lock(rt).is_due(now);
+        if is_due {
+            self.drain(rt);
         }
     }
 
@@ -142,7 +192,8 @@ impl<C: Drop> Server<C> {
 
     /// The numbers of the server now.
     pub fn snapshot<R: Wait>(&self, rt: &R) -> Snapshot {
-        let is_ending = self.is_draining() || !self.runs();
+        let is_ordered = self.process.drain_plan.lock(rt).is_ordered();
+        let is_ending = is_ordered || self.is_draining() || !self.runs();
         let mut all = Snapshot {
             counts: Counts::NONE,
             generations: 0,
@@ -152,6 +203,8 @@ impl<C: Drop> Server<C> {
             draining_count: 0,
             connections: self.process.sockets.count(),
             closed: self.process.sockets.closed(),
+            idle_closed: self.process.sockets.idle_closed(),
+            refused: *self.process.refused.lock(rt),
             faults: *self.process.faults.lock(rt).hosts(),
             lines: self.lines.len(),
             line_hosts: [LineHosts::NONE; MAX_LINES_SHOWN],

@@ -7,7 +7,7 @@ use http_server::{Response, Service};
 use limits::MAX_HOSTS;
 use proxy_histogram::Histogram;
 use proxy_pages::{About, Admin, LineHosts, Look, MAX_LINES_SHOWN, ProcessUse, Snapshot};
-use proxy_serve_core::HostFaults;
+use proxy_serve_core::{HostFaults, RefusedSockets};
 use proxy_stats::Counts;
 use std::alloc::Global;
 use std::str;
@@ -49,6 +49,8 @@ fn snapshot() -> Snapshot {
         draining_count: 0,
         connections: 0,
         closed: 0,
+        idle_closed: 0,
+        refused: RefusedSockets::NONE,
         faults: [HostFaults::NONE; MAX_HOSTS],
         lines: 1,
         line_hosts: [LineHosts::NONE; MAX_LINES_SHOWN],

@@ -37,6 +37,19 @@ impl Worker<'_> {
         is_cut
     }
 
+    // Ends the inputs of clients that were idle for long enough.
+    pub(super) fn close_idle(&mut self) {
+        if self.generation.line().idle_ms() == 0 {
+            return;
+        }
+        for key in 0..self.connections.capacity() {
+            let round = self
+                .generation
+                .round(self.poll.registry(), self.mode, self.now);
+            self.connections.end_idle(round, key);
+        }
+    }
+
     // While too many bytes wait for all sockets together, closes its stalled clients, those for which most wait first.
     pub(super) fn close_stalled<R: Eprint>(&mut self, rt: &R) {
         let line = self.generation.line();

@@ -95,6 +95,7 @@ impl Worker<'_> {
             self.looked_at = self.now;
             self.connections.make_all_ready();
             self.close_stalled(rt);
+            self.close_idle();
         }
     }
 

@@ -1,6 +1,5 @@
-use Rattle.proxy_engines.proofs.OwnHistoryLemmas.{keeps_same}
 use Rattle.proxy_engines.specs.Host.{LinkState}
-use Rattle.std.proofs.Common.{◌≡◌, ◌∙◌, ap, sym, Some, None, false, refl, inl, inr, rules}
+use Rattle.std.proofs.Common.{◌≡◌, ap, Some, None, false, refl, inl, inr}
 use Rattle.proxy_history.specs.declared.event.Event.{Event}
 use Rattle.proxy_history.specs.declared.event.Kind.{Kind}
 use Rattle.proxy_engines.specs.declared.link.Outcome.{Outcome}
