@@ -83,6 +83,9 @@ pub(crate) enum Numbers {
 
     /// The histogram of the durations of commands.
     Durations,
+
+    /// The histogram of how long each host took for its replies.
+    HostDurations,
 }
 
 /// A metric.
@@ -145,7 +148,7 @@ pub(crate) fn fault_word(cause: FaultCause) -> &'static str
 }
 
 /// The number of metrics.
-pub(crate) const METRIC_COUNT: usize = 25;
+pub(crate) const METRIC_COUNT: usize = 26;
 
 /// All metrics, in the order of the page.
 pub(crate) const METRICS: [Metric; METRIC_COUNT] = [
@@ -196,6 +199,12 @@ pub(crate) const METRICS: [Metric; METRIC_COUNT] = [
         kind: Kind::Counter,
         help: "Replies of the host.",
         numbers: Numbers::ByHost(HostNumber::Answered),
+    },
+    Metric {
+        name: "redproxy_host_duration_seconds",
+        kind: Kind::Histogram,
+        help: "Time from the sending of a part to the host to its reply.",
+        numbers: Numbers::HostDurations,
     },
     Metric {
         name: "redproxy_host_faults_total",

@@ -109,6 +109,9 @@ pub struct Snapshot {
     /// The faults of each host's links, by its number, over all generations.
     pub faults: [HostFaults; MAX_HOSTS],
 
+    /// How long each host took for its replies, by its number, over all generations.
+    pub host_durations: [Histogram; MAX_HOSTS],
+
     /// The number of lines of generations; a single one isn't told of by itself.
     pub lines: usize,
 

@@ -6,6 +6,7 @@ use crate::stop::Stop;
 use byte_sum::ByteSum;
 use mio::Waker;
 use open_sockets::OpenSockets;
+use proxy_histogram::HostDurations;
 use proxy_serve_core::FaultLog;
 use std::alloc::Global;
 use std::sync::{Arc, Mutex, Wait};
@@ -25,6 +26,7 @@ pub(crate) struct Process {
     stop: Mutex<Option<Stop>>,
     pub(crate) log: Log,
     pub(crate) faults: Mutex<FaultLog>,
+    pub(crate) host_durations: Mutex<HostDurations>,
     pub(crate) outs: Mutex<HostOuts>,
     // Of all journals.
     pub(crate) unfinished: Arc<ByteSum>,
@@ -37,6 +39,7 @@ impl Drop for Process {
             stop: _,
             log: _,
             faults: _,
+            host_durations: _,
             outs: _,
             unfinished: _,
         } = self;
@@ -56,6 +59,7 @@ impl Process {
             stop: Mutex::new(None),
             log,
             faults: Mutex::new(FaultLog::new()),
+            host_durations: Mutex::new(HostDurations::new()),
             outs: Mutex::new(HostOuts::new()),
             unfinished: Arc::new(alloc, ByteSum::new())?,
         })

@@ -153,6 +153,7 @@ impl<C: Drop> Server<C> {
             connections: self.process.sockets.count(),
             closed: self.process.sockets.closed(),
             faults: *self.process.faults.lock(rt).hosts(),
+            host_durations: *self.process.host_durations.lock(rt).hosts(),
             lines: self.lines.len(),
             line_hosts: [LineHosts::NONE; MAX_LINES_SHOWN],
             durations: Histogram::new(),
