@@ -7,7 +7,6 @@ ghost use Rattle.proxy_engines.specs.Turns.{own_history};
 ghost use Rattle.proxy_connections.specs.Sockets.{KeepsHost};
 ghost use Rattle.proxy_connections.specs.WorkerConnections.{CarriesLink};
 
-use crate::flights::Flights;
 use crate::host_fault::{HostFault, LostLink};
 use crate::host_link::{HostLink, LinkState};
 use crate::round::HostRound;
@@ -20,7 +19,7 @@ use mio::Token;
 use mio::event::Event as Readiness;
 use proxy_engines::{EngineError, HostEngine, Progress};
 use proxy_exit_status::Ending;
-use proxy_histogram::Histogram;
+use proxy_histogram::{Flights, Histogram};
 use proxy_serve_core::Refusals;
 use std::alloc::Global;
 use std::net::{Net, SocketAddr};
@@ -209,7 +208,7 @@ impl HostConnection {
         self.flights.begin_round();
         let stepped = self.step_engine(rt, turns, round);
         let counts = turns.leave_with_counts();
-        self.flights.note(&counts, round.now_us);
+        self.flights.note(round.now_us, counts.sent, counts.matched);
         self.write_out(buffer);
         self.has_more = self.has_more || stepped.is_err();
         match stepped {
@@ -317,8 +316,10 @@ impl HostConnection {
         if now.faults == before.faults {
             return;
         }
+        // (the engine has taken one part at most since)
+        self.flights.note(round.now_us, now.sent, now.matched);
         self.flights
-            .note_fault(now, round.now_us, self.engine.awaits_reply());
+            .forget(round.now_us, self.engine.awaits_reply());
         let lost = now.lost.saturating_sub(before.lost);
         if let Some(fault) = self.engine.last_fault() {
             let host = self.engine.host();

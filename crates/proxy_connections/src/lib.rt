@@ -9,7 +9,6 @@
 #![tactic(auto)]
 
 mod client_connection;
-mod flights;
 mod host_connection;
 mod host_fault;
 mod host_link;
