@@ -13,7 +13,7 @@ use Rattle.journal_budget.specs.declared.payload_counts.TheConstants.{STEPS_A_RE
 
 -- the counts of nothing
 abbrev pub no_counts : TurnCounts
-no_counts = record { accepted = 0; handed = none; parts = 0; matched = 0; faults = 0; lost = 0 }
+no_counts = record { accepted = 0; handed = none; parts = 0; sent = 0; matched = 0; faults = 0; lost = 0 }
   where
     none : HandedReplies
     none = record { count = 0; large = 0; short = 0; greatest = 0 }
@@ -22,6 +22,7 @@ no_counts = record { accepted = 0; handed = none; parts = 0; matched = 0; faults
 abbrev pub counted : StepKind → ℕ → TurnCounts → TurnCounts
 counted kinds.Handed bytes c = record c { handed = with_reply bytes c.handed }
 counted (kinds.Accepted parts) bytes c = record c { accepted = capped (c.accepted + 1); parts = capped (c.parts + parts) }
+counted kinds.Sent bytes c = record c { sent = capped (c.sent + 1) }
 counted kinds.Matched bytes c = record c { matched = capped (c.matched + 1) }
 counted (kinds.Lost parts) bytes c = record c { faults = capped (c.faults + 1); lost = capped (c.lost + parts) }
 counted _ bytes c = c

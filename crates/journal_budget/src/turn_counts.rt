@@ -13,6 +13,8 @@ pub struct TurnCounts {
     pub handed: HandedReplies,
     /// Parts queued for hosts.
     pub parts: u64,
+    /// Parts sent to hosts.
+    pub sent: u64,
     /// Hosts' replies taken.
     pub matched: u64,
     /// Hosts' faults recorded.
@@ -27,6 +29,7 @@ impl TurnCounts {
         accepted: 0,
         handed: HandedReplies::NONE,
         parts: 0,
+        sent: 0,
         matched: 0,
         faults: 0,
         lost: 0,
@@ -42,6 +45,7 @@ impl TurnCounts {
                 self.parts = self.parts.saturating_add(parts);
             }
             StepKind::Handed => self.handed.add(handed),
+            StepKind::Sent => self.sent = self.sent.saturating_add(1),
             StepKind::Matched => self.matched = self.matched.saturating_add(1),
             StepKind::Lost { parts } => {
                 self.faults = self.faults.saturating_add(1);

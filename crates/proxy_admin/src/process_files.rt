@@ -13,7 +13,7 @@ const OWN_TIME: usize = 11;
 const SYSTEM_TIME: usize = 12;
 const PAGES: usize = 21;
 
-const TICK_MS: u64 = 10;
+const TICK_US: u64 = 10_000;
 
 const PAGE_BYTES: u64 = 4_096;
 
@@ -37,7 +37,7 @@ impl ProcessFiles {
         let ticks = number_at(numbers, OWN_TIME).saturating_add(number_at(numbers, SYSTEM_TIME));
         ProcessUse {
             resident: number_at(numbers, PAGES).saturating_mul(PAGE_BYTES),
-            cpu_ms: ticks.saturating_mul(TICK_MS),
+            cpu_us: ticks.saturating_mul(TICK_US),
             files: self.count_files(),
             began: self.began,
         }

@@ -19,6 +19,7 @@ use mio::Token;
 use mio::event::Event as Readiness;
 use proxy_engines::{EngineError, HostEngine, Progress};
 use proxy_exit_status::Ending;
+use proxy_histogram::{Flights, Histogram};
 use proxy_serve_core::Refusals;
 use std::alloc::Global;
 use std::net::{Net, SocketAddr};
@@ -47,6 +48,15 @@ pub enum HostStepped {
     Faulty(LostLink),
 }
 
+/// How long a host took for replies.
+#[derive(Clone, Copy, Drop)]
+pub struct HostTime {
+    /// The host's number.
+    pub host: usize,
+    /// From the moment at which each part was sent to that of its reply.
+    pub durations: Histogram,
+}
+
 pub(crate) struct HostConnection {
     alloc: Global,
     engine: Engine,
@@ -63,6 +73,7 @@ pub(crate) struct HostConnection {
     is_asked: bool,
     // It is still to be told.
     lost_link: Option<LostLink>,
+    flights: Flights,
 }
 
 impl Drop for HostConnection {
@@ -78,6 +89,7 @@ impl Drop for HostConnection {
             coming: _,
             is_asked: _,
             lost_link: _,
+            flights: _,
         } = self;
     }
 }
@@ -105,7 +117,23 @@ impl HostConnection {
             coming: 0,
             is_asked: false,
             lost_link: None,
+            flights: Flights::new(alloc),
         }
+    }
+
+    /// Takes the durations of its replies since the last call. `None`: there were no replies.
+    pub(crate) fn take_time(&mut self) -> Option<HostTime>
+        ensures engine { self.new.engine ≡ self.old.engine }
+        ensures address { self.new.link ≡ self.old.link }
+    {
+        let durations = self.flights.take_durations();
+        if durations.total == 0 {
+            return None;
+        }
+        Some(HostTime {
+            host: self.engine.host(),
+            durations,
+        })
     }
 
     /// Host h has bit h.
@@ -177,9 +205,10 @@ impl HostConnection {
         self.has_more = false;
         self.looked = round.now;
         self.lend_buffer(buffer);
+        self.flights.begin_round();
         let stepped = self.step_engine(rt, turns, round);
-        // (the next round counts anew)
-        let _counts = turns.leave_with_counts();
+        let counts = turns.leave_with_counts();
+        self.flights.note(round.now_us, counts.sent, counts.matched);
         self.write_out(buffer);
         self.has_more = self.has_more || stepped.is_err();
         match stepped {
@@ -276,21 +305,25 @@ impl HostConnection {
         let before = *turns.counts();
         self.is_asked = self.engine.awaits_reply();
         let moved = self.go_on(rt, turns, round);
-        self.note_fault(before, *turns.counts(), round.gives_up);
+        self.note_fault(&before, turns.counts(), round);
         self.end_behind_fault(moved)
     }
 
-    fn note_fault(&mut self, before: TurnCounts, now: TurnCounts, gives_up: bool)
+    fn note_fault(&mut self, before: &TurnCounts, now: &TurnCounts, round: HostRound<'_>)
         ensures engine { self.new.engine ≡ self.old.engine }
         ensures address { self.new.link ≡ self.old.link }
     {
         if now.faults == before.faults {
             return;
         }
+        // (the engine has taken one part at most since)
+        self.flights.note(round.now_us, now.sent, now.matched);
+        self.flights
+            .forget(round.now_us, self.engine.awaits_reply());
         let lost = now.lost.saturating_sub(before.lost);
         if let Some(fault) = self.engine.last_fault() {
             let host = self.engine.host();
-            self.lost_link = match HostFault::of(fault, self.is_asked, gives_up) {
+            self.lost_link = match HostFault::of(fault, self.is_asked, round.gives_up) {
                 Some(fault) => Some(LostLink { host, fault, lost }),
                 None => None,
             };

@@ -22,7 +22,7 @@ mod waiting_output;
 mod worker_connections;
 
 pub use client_connection::{CarriedSocket, Stepped};
-pub use host_connection::HostStepped;
+pub use host_connection::{HostStepped, HostTime};
 pub use host_fault::{HostFault, LostLink, PassedLimit};
 pub use laws::{assigned_hosts_have_one_pass, hosts_have_their_workers, passes_share_no_host};
 pub use round::Round;

@@ -15,6 +15,8 @@ pub struct Round<'a> {
     pub registry: &'a Registry,
     /// The round's moment, in milliseconds.
     pub now: u64,
+    /// The moment for durations, in microseconds: the round's, or a later one that was read in it.
+    pub now_us: u64,
     /// The most parts that one client may queue in it.
     pub most_parts: u64,
     /// Whether the hosts' waiting parts are given up.
@@ -35,5 +37,6 @@ pub(crate) struct HostRound<'a> {
     pub(crate) room: &'a JournalRoom,
     pub(crate) registry: &'a Registry,
     pub(crate) now: u64,
+    pub(crate) now_us: u64,
     pub(crate) gives_up: bool,
 }

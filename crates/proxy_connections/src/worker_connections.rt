@@ -8,7 +8,7 @@ ghost use Rattle.proxy_connections.specs.WorkerConnections.{AddsClient, ChangesC
 use crate::client_connection::{
     CarriedSocket, ClientConnection, ClientRound, Lent, NewSocket, Opening, Stepped,
 };
-use crate::host_connection::{HostConnection, HostStepped};
+use crate::host_connection::{HostConnection, HostStepped, HostTime};
 use crate::round::{HostRound, Round};
 use crate::stalled;
 use crate::step_error::StepError;
@@ -272,6 +272,17 @@ impl<'a> WorkerConnections<'a> {
         ensures { self.new ≡ self.old }
     {
         mem::replace(&mut self.lent.durations, Histogram::new())
+    }
+
+    /// Takes the durations of the replies of the host with this index since the last call. `None`: there were no replies,
+    /// or there is no such host.
+    pub fn take_host_time(&mut self, index: usize) -> Option<HostTime>
+        ensures { ChangesHost index self.old self.new }
+    {
+        let Some(host) = self.hosts.get_mut(index) else {
+            return None;
+        };
+        host.take_time()
     }
 
     /// Opens a connection on a new socket, which is registered under the vacant key.
@@ -549,6 +560,7 @@ fn client_round(round: Round<'_>, reserve: u64) -> ClientRound<'_> {
     ClientRound {
         room: round.room,
         now: round.now,
+        now_us: round.now_us,
         reserve,
         most_parts: round.most_parts,
         carries_over: round.carries_over,
@@ -562,6 +574,7 @@ fn host_round(round: Round<'_>) -> HostRound<'_> {
         room: round.room,
         registry: round.registry,
         now: round.now,
+        now_us: round.now_us,
         gives_up: round.gives_up,
     }
 }

@@ -1,5 +1,5 @@
 -- Which commands are unanswered: the lists are of the moments when these were accepted, the oldest first.
-use Rattle.std.specs.Prelude.{◌≡◌, ◌-◌, ◌<◌, ◌++◌, ℕ, List, [], Some, All, length, map, take, drop, replicate, flat_map, slice_get}
+use Rattle.std.specs.Prelude.{◌≡◌, ◌-◌, ◌<◌, ◌⊎◌, ◌++◌, ℕ, List, [], Some, All, length, map, take, drop, replicate, flat_map, slice_get}
 use Rattle.proxy_histogram.specs.Values.{IsOf}
 use Rattle.proxy_histogram.specs.declared.histogram.Histogram.{Histogram}
 use Rattle.proxy_histogram.specs.declared.unanswered.Run.{Run}
@@ -29,3 +29,9 @@ pub record AnswersOldest (old new : List ℕ) (now count : ℕ) (durations durat
   pub left : new ≡ drop count old
   pub recorded : (values : List ℕ) → IsOf values durations
       → IsOf (values ++ map (λ moment. now - moment) (take count old)) durations'
+
+-- Further parts are sent at this moment, or count as sent with the last ones before them. Then so many of the oldest are answered at it.
+pub record NotesParts (old new : List ℕ) (now sent answered : ℕ) (durations durations' : Histogram) : Type 0 where
+  pub with_sent : List ℕ
+  pub grown : (with_sent ≡ old ++ replicate sent now) ⊎ JoinsLast old with_sent sent
+  pub rest : AnswersOldest with_sent new now answered durations durations'

@@ -2,22 +2,25 @@ ghost use Rattle.std.specs.Prelude.{◌≡◌, ◌<◌, ◌+◌, ◌++◌, ◌�
 ghost use Rattle.proxy_histogram.specs.Values.{IsOf, capped, with_times};
 
 /// The number of bounds.
-pub const BOUNDS: usize = 12;
+pub const BOUNDS: usize = 18;
 
-/// In milliseconds: Prometheus's usual ones, with 2 in place of 2.5, so that all are whole.
-pub const BOUNDS_MS: [u64; BOUNDS] = [1, 2, 5, 10, 25, 50, 100, 250, 500, 1000, 2500, 5000];
+/// In microseconds: from 25 of them to 10 seconds.
+pub const BOUNDS_US: [u64; BOUNDS] = [
+    25, 50, 100, 250, 500, 1_000, 2_000, 5_000, 10_000, 25_000, 50_000, 100_000, 250_000, 500_000,
+    1_000_000, 2_500_000, 5_000_000, 10_000_000,
+];
 
-/// A histogram of milliseconds. The greatest `u64` stands for any greater number.
+/// A histogram of microseconds. The greatest `u64` stands for any greater number.
 #[derive(Clone, Copy, Debug, PartialEq, Eq)]
 pub struct Histogram {
-    /// The number of values up to each of [`BOUNDS_MS`].
+    /// The number of values up to each of [`BOUNDS_US`].
     pub at_most: [u64; BOUNDS],
 
     /// The number of values.
     pub total: u64,
 
-    /// Their sum, in milliseconds.
-    pub sum_ms: u64,
+    /// Their sum, in microseconds.
+    pub sum_us: u64,
 }
 
 impl Histogram {
@@ -28,25 +31,25 @@ impl Histogram {
         Histogram {
             at_most: [0; BOUNDS],
             total: 0,
-            sum_ms: 0,
+            sum_us: 0,
         }
     }
 
     /// Adds a value.
-    pub fn record(&mut self, ms: u64)
-        ensures { (values : List ℕ) → IsOf values self.old → IsOf (values ++ ms ∷ []) self.new }
+    pub fn record(&mut self, us: u64)
+        ensures { (values : List ℕ) → IsOf values self.old → IsOf (values ++ us ∷ []) self.new }
     {
-        self.record_times(ms, 1);
+        self.record_times(us, 1);
     }
 
     /// Adds a value `times` times.
-    pub fn record_times(&mut self, ms: u64, times: u64)
+    pub fn record_times(&mut self, us: u64, times: u64)
         ensures { (values : List ℕ) → IsOf values self.old
-            → IsOf (values ++ replicate times ms) self.new }
+            → IsOf (values ++ replicate times us) self.new }
     {
-        self.at_most = recorded(&self.at_most, ms, times);
+        self.at_most = recorded(&self.at_most, us, times);
         self.total = self.total.saturating_add(times);
-        self.sum_ms = self.sum_ms.saturating_add(times.saturating_mul(ms));
+        self.sum_us = self.sum_us.saturating_add(times.saturating_mul(us));
     }
 
     /// The histogram of the values of both.
@@ -57,18 +60,18 @@ impl Histogram {
         Histogram {
             at_most: joined(&self.at_most, &other.at_most),
             total: self.total.saturating_add(other.total),
-            sum_ms: self.sum_ms.saturating_add(other.sum_ms),
+            sum_us: self.sum_us.saturating_add(other.sum_us),
         }
     }
 }
 
-fn recorded(at_most: &[u64; BOUNDS], ms: u64, times: u64) -> [u64; BOUNDS]
+fn recorded(at_most: &[u64; BOUNDS], us: u64, times: u64) -> [u64; BOUNDS]
     ensures { (i : ℕ) → i < BOUNDS → slice_index result i
-        ≡ with_times ms times (slice_index BOUNDS_MS i) (slice_index at_most.now i) }
+        ≡ with_times us times (slice_index BOUNDS_US i) (slice_index at_most.now i) }
 {
     let mut more = [0; BOUNDS];
     for i in 0..BOUNDS {
-        let count = if ms <= BOUNDS_MS[i] { times } else { 0 };
+        let count = if us <= BOUNDS_US[i] { times } else { 0 };
         more[i] = at_most[i].saturating_add(count);
     }
     more

@@ -16,8 +16,8 @@ struct Run {
 
 const NONE: Run = Run { since: 0, count: 0 };
 
-/// When a connection's unanswered commands were accepted, in milliseconds. Answers leave in the order of the
-/// commands.
+/// When a connection's unanswered commands were accepted, in microseconds. Answers leave in the order of the
+/// commands. A host's parts without a reply are such commands too, accepted when they were sent.
 #[derive(Drop)]
 pub struct Unanswered {
     first: Run,
@@ -111,6 +111,14 @@ impl Unanswered {
             durations.record_times(now.saturating_sub(run.since), run.count);
             left -= run.count;
         }
+    }
+
+    /// Forgets all unanswered commands: they get no answer.
+    pub fn forget_all(&mut self)
+        ensures { self.new ≡ [] }
+    {
+        self.first = NONE;
+        self.later.clear();
     }
 
     // At most this many of the oldest ones, accepted at one moment.

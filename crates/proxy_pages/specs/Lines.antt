@@ -10,9 +10,13 @@ escaped_byte b = if (b == 92) || (b == 34) then 92 ∷ b ∷ [] else b ∷ []
 abbrev pub escaped : List ℕ → List ℕ
 escaped value = flat_map escaped_byte value
 
--- milliseconds as seconds, with three decimals
+-- the last three digits of a number
+abbrev pub last_three : ℕ → List ℕ
+last_three n = concat (decimal (n / 100 % 10) ∷ decimal (n / 10 % 10) ∷ decimal (n % 10) ∷ [])
+
+-- microseconds as seconds, with six decimals
 abbrev pub seconds_text : ℕ → List ℕ
-seconds_text ms = concat (decimal (ms / 1000) ∷ codes "." ∷ decimal (ms / 100 % 10) ∷ decimal (ms / 10 % 10) ∷ decimal (ms % 10) ∷ [])
+seconds_text us = concat (decimal (us / 1000000) ∷ codes "." ∷ []) ++ last_three (us / 1000) ++ last_three us
 
 -- a number with no label
 abbrev pub plain_text : List ℕ → List ℕ → ℕ → List ℕ
@@ -43,13 +47,40 @@ abbrev pub build_text : List ℕ → List ℕ → List ℕ → List ℕ
 build_text name version kit =
     concat (name ∷ codes "{version=\"" ∷ escaped version ∷ codes "\",kit=\"" ∷ escaped kit ∷ codes "\"} 1\n" ∷ [])
 
--- how many values were at most so many milliseconds
+-- how many values were at most so many microseconds
 abbrev pub bound_text : List ℕ → ℕ → ℕ → List ℕ
-bound_text name ms number =
+bound_text name us number =
     concat (name ∷ codes "_bucket{le=\"" ∷ [])
-    ++ seconds_text ms
+    ++ seconds_text us
     ++ concat (codes "\"} " ∷ decimal number ∷ codes "\n" ∷ [])
 
 -- how many values there were, as the last of the bounds
 abbrev pub last_bound_text : List ℕ → ℕ → List ℕ
 last_bound_text name number = concat (name ∷ codes "_bucket{le=\"+Inf\"} " ∷ decimal number ∷ codes "\n" ∷ [])
+
+-- a name with its suffix, a host, and what stands behind the host
+abbrev pub host_label : List ℕ → List ℕ → List ℕ → List ℕ → List ℕ
+host_label name suffix host behind = concat (name ∷ suffix ∷ codes "{host=\"" ∷ escaped host ∷ behind ∷ [])
+
+-- the end of labels, and a number
+abbrev pub end_text : List ℕ → ℕ → List ℕ
+end_text end number = concat (end ∷ decimal number ∷ codes "\n" ∷ [])
+
+-- how many values of a host were at most so many microseconds
+abbrev pub host_bound_text : List ℕ → List ℕ → ℕ → ℕ → List ℕ
+host_bound_text name host us number =
+    host_label name (codes "_bucket") host (codes "\",le=\"") ++ seconds_text us ++ end_text (codes "\"} ") number
+
+-- how many values of a host there were, as the last of its bounds
+abbrev pub last_host_bound_text : List ℕ → List ℕ → ℕ → List ℕ
+last_host_bound_text name host number =
+    host_label name (codes "_bucket") host (codes "\",le=\"+Inf") ++ end_text (codes "\"} ") number
+
+-- the sum of a host's values, in seconds
+abbrev pub host_sum_text : List ℕ → List ℕ → ℕ → List ℕ
+host_sum_text name host us =
+    host_label name (codes "_sum") host (codes "\"} ") ++ seconds_text us ++ concat (codes "\n" ∷ [])
+
+-- how many values of a host there were
+abbrev pub host_count_text : List ℕ → List ℕ → ℕ → List ℕ
+host_count_text name host number = host_label name (codes "_count") host [] ++ end_text (codes "\"} ") number

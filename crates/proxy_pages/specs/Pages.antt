@@ -2,7 +2,8 @@
 use Rattle.std.specs.Prelude.{ℕ, min, Bool, List, [], ◌∷◌, ◌++◌, codes, decimal, map, length, get_or, slice_index, if◌then◌else◌}
 use Rattle.std.specs.List.{concat, range_with_len}
 use Rattle.proxy_histogram.specs.declared.histogram.Histogram.{Histogram}
-use Rattle.proxy_histogram.specs.declared.histogram.TheConstants.{BOUNDS_MS}
+use Rattle.proxy_histogram.specs.declared.histogram.TheConstants.{BOUNDS_US}
+use Rattle.proxy_histogram.specs.HostDurations.{durations_at}
 use Rattle.proxy_config.specs.declared.config.Host.{Host}
 use Rattle.proxy_stats.specs.declared.tally.Counts.{Counts}
 use Rattle.proxy_serve_core.specs.FaultLog.{faults_at, of_cause}
@@ -12,12 +13,12 @@ use Rattle.proxy_serve_core.specs.declared.refused_sockets.RefusedSockets.{Refus
 use Rattle.proxy_pages.specs.declared.metric.Kind.{Kind}
 use Rattle.proxy_pages.specs.declared.metric.Kind.TheVariants.{Counter, Gauge, Histogram as HistogramKind}
 use Rattle.proxy_pages.specs.declared.metric.Numbers.{Numbers}
-use Rattle.proxy_pages.specs.declared.metric.Numbers.TheVariants.{Build, One, ByAnswer, ByCause, ByHost, ByHostFault, Out as ByOut, ByJournal, Durations, Cpu, ByRefusal}
+use Rattle.proxy_pages.specs.declared.metric.Numbers.TheVariants.{Build, One, ByAnswer, ByCause, ByHost, ByHostFault, Out as ByOut, ByJournal, Durations, Cpu, ByRefusal, HostDurations}
 use Rattle.proxy_pages.specs.declared.metric.HostNumber.{HostNumber}
 use Rattle.proxy_pages.specs.declared.metric.HostNumber.TheVariants.{Sent, Answered, Faults, Lost, Waiting, Flying, Out}
 use Rattle.proxy_pages.specs.declared.snapshot.About.{About}
 use Rattle.proxy_pages.specs.declared.snapshot.Snapshot.{Snapshot}
-use Rattle.proxy_pages.specs.Lines.{plain_text, labelled_text, host_text, fault_text, line_text, build_text, bound_text, last_bound_text, seconds_text}
+use Rattle.proxy_pages.specs.Lines.{plain_text, labelled_text, host_text, fault_text, line_text, build_text, bound_text, last_bound_text, host_bound_text, last_host_bound_text, host_sum_text, host_count_text, seconds_text}
 use Rattle.proxy_pages.specs.Table.{Row, metrics}
 use Rattle.proxy_pages.specs.Numbers.{number_of, host_number, journal_number, load_at, bit, is_out_in, lines_shown}
 
@@ -111,15 +112,15 @@ outs_text about s name = each (host_count about) (λ i. host_outs_text name (hos
 
 -- how many values were at most each bound
 abbrev pub bounds_text : List ℕ → Histogram → List ℕ
-bounds_text name h = each 12 (λ i. bound_text name (slice_index BOUNDS_MS i) (slice_index h.at_most i))
+bounds_text name h = each 18 (λ i. bound_text name (slice_index BOUNDS_US i) (slice_index h.at_most i))
 
 -- the sum of the values, in seconds
 abbrev pub sum_text : List ℕ → Histogram → List ℕ
-sum_text name h = concat (name ∷ codes "_sum " ∷ []) ++ seconds_text h.sum_ms ++ concat (codes "\n" ∷ [])
+sum_text name h = concat (name ∷ codes "_sum " ∷ []) ++ seconds_text h.sum_us ++ concat (codes "\n" ∷ [])
 
--- milliseconds of processor time, in seconds
+-- microseconds of processor time, in seconds
 abbrev pub cpu_text : List ℕ → ℕ → List ℕ
-cpu_text name ms = concat (name ∷ codes " " ∷ []) ++ seconds_text ms ++ concat (codes "\n" ∷ [])
+cpu_text name us = concat (name ∷ codes " " ∷ []) ++ seconds_text us ++ concat (codes "\n" ∷ [])
 
 -- a histogram
 abbrev pub durations_text : List ℕ → Histogram → List ℕ
@@ -128,6 +129,23 @@ durations_text name h =
     ++ last_bound_text name h.total
     ++ sum_text name h
     ++ plain_text name (codes "_count") h.total
+
+-- how many values of a host were at most each bound
+abbrev pub host_bounds_text : List ℕ → List ℕ → Histogram → List ℕ
+host_bounds_text name host h = each 18 (λ i. host_bound_text name host (slice_index BOUNDS_US i) (slice_index h.at_most i))
+
+-- the histogram of a host
+abbrev pub host_histogram_text : List ℕ → List ℕ → Histogram → List ℕ
+host_histogram_text name host h =
+    host_bounds_text name host h
+    ++ last_host_bound_text name host h.total
+    ++ host_sum_text name host h.sum_us
+    ++ host_count_text name host h.total
+
+-- each host's histogram
+abbrev pub host_durations_text : About → Snapshot → List ℕ → List ℕ
+host_durations_text about s name =
+    each (host_count about) (λ i. host_histogram_text name (host_name about i) (durations_at s.host_durations i))
 
 -- the numbers of a kind, under a name
 abbrev pub numbers_by : About → Snapshot → List ℕ → Numbers → List ℕ
@@ -143,7 +161,8 @@ numbers_by about s name (ByJournal number) =
     labelled_text name (codes "journal") (codes "serving") (journal_number number s.serving)
     ++ labelled_text name (codes "journal") (codes "draining") (journal_number number s.draining)
 numbers_by about s name Durations = durations_text name s.durations
-numbers_by about s name Cpu = cpu_text name s.process.cpu_ms
+numbers_by about s name Cpu = cpu_text name s.process.cpu_us
+numbers_by about s name HostDurations = host_durations_text about s name
 
 -- the numbers of a metric
 abbrev pub numbers_text : About → Snapshot → Row → List ℕ

@@ -3,7 +3,7 @@ use Rattle.std.specs.Prelude.{ℕ, List, [], ◌∷◌, codes}
 use Rattle.proxy_pages.specs.declared.metric.Kind.{Kind}
 use Rattle.proxy_pages.specs.declared.metric.Kind.TheVariants.{Counter, Gauge, Histogram as HistogramKind}
 use Rattle.proxy_pages.specs.declared.metric.Numbers.{Numbers}
-use Rattle.proxy_pages.specs.declared.metric.Numbers.TheVariants.{Build, One, ByAnswer, ByCause, ByHost, ByHostFault, Out, ByJournal, Durations, Cpu, ByRefusal}
+use Rattle.proxy_pages.specs.declared.metric.Numbers.TheVariants.{Build, One, ByAnswer, ByCause, ByHost, ByHostFault, Out, ByJournal, Durations, Cpu, ByRefusal, HostDurations}
 use Rattle.proxy_pages.specs.declared.metric.Number.TheVariants as number
 use Rattle.proxy_pages.specs.declared.metric.HostNumber.TheVariants as host
 use Rattle.proxy_pages.specs.declared.metric.JournalNumber.TheVariants as journal
@@ -35,6 +35,7 @@ metrics =
     ∷ row (codes "redproxy_part_errors_total") Counter (codes "Parts of commands that got an error of the proxy's own, by its cause.") ByCause
     ∷ row (codes "redproxy_host_parts_sent_total") Counter (codes "Parts of commands that were sent to the host.") (ByHost host.Sent)
     ∷ row (codes "redproxy_host_replies_total") Counter (codes "Replies of the host.") (ByHost host.Answered)
+    ∷ row (codes "redproxy_host_duration_seconds") HistogramKind (codes "Time from the sending of a part to the host to its reply.") HostDurations
     ∷ row (codes "redproxy_host_faults_total") Counter (codes "Faults of the host's link, by their cause.") ByHostFault
     ∷ row (codes "redproxy_host_parts_lost_total") Counter (codes "Parts that waited for the host or were sent to it at a fault.") (ByHost host.Lost)
     ∷ row (codes "redproxy_host_parts_waiting") Gauge (codes "Parts of commands that wait to be sent to the host.") (ByHost host.Waiting)

@@ -1,7 +1,7 @@
 //! Lines of Prometheus's text format.
 ghost use Rattle.std.specs.Prelude.{◌≡◌, ◌++◌, OnOk, map};
 ghost use Rattle.std.specs.List.{concat};
-ghost use Rattle.proxy_pages.specs.Lines.{plain_text, labelled_text, host_text, fault_text, line_text, build_text, bound_text, last_bound_text, seconds_text, escaped};
+ghost use Rattle.proxy_pages.specs.Lines.{plain_text, labelled_text, host_text, fault_text, line_text, build_text, bound_text, end_text, host_bound_text, host_count_text, host_label, host_sum_text, last_bound_text, last_host_bound_text, last_three, seconds_text, escaped};
 
 use itoa::Buffer;
 use std::alloc::AllocError;
@@ -137,19 +137,19 @@ pub(crate) fn push_build(
     push_all(page, &["\"} 1\n"])
 }
 
-/// Appends the number of values of at most this many milliseconds.
+/// Appends the number of values of at most this many microseconds.
 pub(crate) fn push_bound(
     page: &mut Vec<u8>,
     name: &str,
-    ms: u64,
+    us: u64,
     number: u64,
 ) -> Result<(), AllocError>
     ensures { OnOk result (page.new.items
-        ≡ page.old.items ++ bound_text name.now ms number) }
+        ≡ page.old.items ++ bound_text name.now us number) }
 {
     let mut digits = Buffer::new();
     push_all(page, &[name, "_bucket{le=\""])?;
-    push_seconds(page, ms)?;
+    push_seconds(page, us)?;
     push_all(page, &["\"} ", digits.format(number), "\n"])
 }
 
@@ -165,24 +165,110 @@ pub(crate) fn push_last_bound(page: &mut Vec<u8>, name: &str, number: u64) -> Re
     )
 }
 
-/// Appends milliseconds as seconds with three decimals.
-pub(crate) fn push_seconds(page: &mut Vec<u8>, ms: u64) -> Result<(), AllocError>
-    ensures { OnOk result (page.new.items ≡ page.old.items ++ seconds_text ms) }
+/// Appends the number of a host's values of at most this many microseconds.
+pub(crate) fn push_host_bound(
+    page: &mut Vec<u8>,
+    name: &str,
+    host: &[u8],
+    us: u64,
+    number: u64,
+) -> Result<(), AllocError>
+    ensures { OnOk result (page.new.items
+        ≡ page.old.items ++ host_bound_text name.now host.now us number) }
+{
+    push_host_label(page, name, "_bucket", host, "\",le=\"")?;
+    push_seconds(page, us)?;
+    push_end(page, "\"} ", number)
+}
+
+/// Appends the number of all values of a host, as that of the last bound.
+pub(crate) fn push_last_host_bound(
+    page: &mut Vec<u8>,
+    name: &str,
+    host: &[u8],
+    number: u64,
+) -> Result<(), AllocError>
+    ensures { OnOk result (page.new.items
+        ≡ page.old.items ++ last_host_bound_text name.now host.now number) }
+{
+    push_host_label(page, name, "_bucket", host, "\",le=\"+Inf")?;
+    push_end(page, "\"} ", number)
+}
+
+/// Appends the sum of a host's values.
+pub(crate) fn push_host_sum(
+    page: &mut Vec<u8>,
+    name: &str,
+    host: &[u8],
+    us: u64,
+) -> Result<(), AllocError>
+    ensures { OnOk result (page.new.items
+        ≡ page.old.items ++ host_sum_text name.now host.now us) }
+{
+    push_host_label(page, name, "_sum", host, "\"} ")?;
+    push_seconds(page, us)?;
+    push_all(page, &["\n"])
+}
+
+/// Appends the number of a host's values.
+pub(crate) fn push_host_count(
+    page: &mut Vec<u8>,
+    name: &str,
+    host: &[u8],
+    number: u64,
+) -> Result<(), AllocError>
+    ensures { OnOk result (page.new.items
+        ≡ page.old.items ++ host_count_text name.now host.now number) }
+{
+    push_host_label(page, name, "_count", host, "")?;
+    push_end(page, "\"} ", number)
+}
+
+// Appends a name, its suffix, a host, and what stands behind the host.
+fn push_host_label<'a>(
+    page: &mut Vec<u8>,
+    name: &'a str,
+    suffix: &'a str,
+    host: &[u8],
+    behind: &'a str,
+) -> Result<(), AllocError>
+    ensures { OnOk result (page.new.items
+        ≡ page.old.items ++ host_label name.now suffix.now host.now behind.now) }
+{
+    push_all(page, &[name, suffix, "{host=\""])?;
+    push_escaped(page, host)?;
+    push_all(page, &[behind])
+}
+
+// Appends the end of labels, and a number.
+fn push_end(page: &mut Vec<u8>, end: &str, number: u64) -> Result<(), AllocError>
+    ensures { OnOk result (page.new.items ≡ page.old.items ++ end_text end.now number) }
+{
+    let mut digits = Buffer::new();
+    push_all(page, &[end, digits.format(number), "\n"])
+}
+
+/// Appends microseconds as seconds with six decimals.
+pub(crate) fn push_seconds(page: &mut Vec<u8>, us: u64) -> Result<(), AllocError>
+    ensures { OnOk result (page.new.items ≡ page.old.items ++ seconds_text us) }
 {
     let mut whole = Buffer::new();
-    let (mut tenths, mut hundredths, mut thousandths) = (
-        Buffer::new(),
-        Buffer::new(),
-        Buffer::new(),
-    );
+    push_all(page, &[whole.format(us / 1_000_000), "."])?;
+    push_three(page, us / 1000)?;
+    push_three(page, us)
+}
+
+// Appends the last three digits of a number.
+fn push_three(page: &mut Vec<u8>, number: u64) -> Result<(), AllocError>
+    ensures { OnOk result (page.new.items ≡ page.old.items ++ last_three number) }
+{
+    let (mut hundreds, mut tens, mut ones) = (Buffer::new(), Buffer::new(), Buffer::new());
     push_all(
         page,
         &[
-            whole.format(ms / 1000),
-            ".",
-            tenths.format(ms / 100 % 10),
-            hundredths.format(ms / 10 % 10),
-            thousandths.format(ms % 10),
+            hundreds.format(number / 100 % 10),
+            tens.format(number / 10 % 10),
+            ones.format(number % 10),
         ],
     )
 }

@@ -93,6 +93,9 @@ pub(crate) enum Numbers {
 
     /// The processor time of the process.
     Cpu,
+
+    /// The histogram of how long each host took for its replies.
+    HostDurations,
 }
 
 /// A metric.
@@ -155,7 +158,7 @@ pub(crate) fn fault_word(cause: FaultCause) -> &'static str
 }
 
 /// The number of metrics.
-pub(crate) const METRIC_COUNT: usize = 31;
+pub(crate) const METRIC_COUNT: usize = 32;
 
 /// All metrics, in the order of the page.
 pub(crate) const METRICS: [Metric; METRIC_COUNT] = [
@@ -206,6 +209,12 @@ pub(crate) const METRICS: [Metric; METRIC_COUNT] = [
         kind: Kind::Counter,
         help: "Replies of the host.",
         numbers: Numbers::ByHost(HostNumber::Answered),
+    },
+    Metric {
+        name: "redproxy_host_duration_seconds",
+        kind: Kind::Histogram,
+        help: "Time from the sending of a part to the host to its reply.",
+        numbers: Numbers::HostDurations,
     },
     Metric {
         name: "redproxy_host_faults_total",

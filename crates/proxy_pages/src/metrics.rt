@@ -1,20 +1,21 @@
 //! The page of numbers, in Prometheus's text format.
 ghost use Rattle.std.specs.Prelude.{◌≡◌, ◌++◌, ◌<◌, IfOk, OnOk, map, length};
 ghost use Rattle.std.specs.List.{concat};
-ghost use Rattle.proxy_pages.specs.Pages.{head_text, metric_text, metrics_text, numbers_text, answers_text, causes_text, host_numbers_text, host_faults_text, fault_word, faults_text, lines_out_text, host_outs_text, outs_text, durations_text, bounds_text, sum_text, cpu_text, refusals_text};
+ghost use Rattle.proxy_pages.specs.Pages.{head_text, metric_text, metrics_text, numbers_text, answers_text, causes_text, host_numbers_text, host_faults_text, fault_word, faults_text, lines_out_text, host_outs_text, outs_text, durations_text, bounds_text, sum_text, cpu_text, refusals_text, host_bounds_text, host_durations_text, host_histogram_text};
 ghost use Rattle.proxy_pages.specs.Numbers.{bit};
 ghost use Rattle.proxy_pages.specs.Table.{row_of};
 ghost use Rattle.proxy_pages.specs.Lines.{fault_text};
 ghost use Rattle.proxy_serve_core.specs.FaultLog.{of_cause};
 
 use crate::lines::{
-    push_all, push_bound, push_build, push_fault, push_labelled, push_last_bound, push_of_host,
-    push_of_line, push_plain, push_seconds,
+    push_all, push_bound, push_build, push_fault, push_host_bound, push_host_count, push_host_sum,
+    push_labelled, push_last_bound, push_last_host_bound, push_of_host, push_of_line, push_plain,
+    push_seconds,
 };
 use crate::metric::{HostNumber, METRICS, Metric, Numbers, answer_word, fault_word};
 use crate::snapshot::{About, Snapshot};
 use limits::MAX_HOSTS;
-use proxy_histogram::{BOUNDS, BOUNDS_MS, Histogram};
+use proxy_histogram::{BOUNDS, BOUNDS_US, Histogram};
 use proxy_serve_core::{FaultCause, HostFaults, RefusedSockets};
 use proxy_stats::{Counts, LOCAL_KINDS};
 use std::alloc::{AllocError, Global};
@@ -108,7 +109,8 @@ impl Metric {
                 push_labelled(page, self.name, "journal", "draining", draining)
             }
             Numbers::Durations => push_durations(page, self.name, &snapshot.durations),
-            Numbers::Cpu => push_cpu(page, self.name, snapshot.process.cpu_ms),
+            Numbers::Cpu => push_cpu(page, self.name, snapshot.process.cpu_us),
+            Numbers::HostDurations => push_host_durations(page, self.name, about, snapshot),
         }
     }
 }
@@ -265,11 +267,11 @@ fn push_durations(page: &mut Vec<u8>, name: &str, durations: &Histogram) -> Resu
     push_plain(page, name, "_count", durations.total)
 }
 
-fn push_cpu(page: &mut Vec<u8>, name: &str, ms: u64) -> Result<(), AllocError>
-    ensures { OnOk result (page.new.items ≡ page.old.items ++ cpu_text name.now ms) }
+fn push_cpu(page: &mut Vec<u8>, name: &str, us: u64) -> Result<(), AllocError>
+    ensures { OnOk result (page.new.items ≡ page.old.items ++ cpu_text name.now us) }
 {
     push_all(page, &[name, " "])?;
-    push_seconds(page, ms)?;
+    push_seconds(page, us)?;
     push_all(page, &["\n"])
 }
 
@@ -277,7 +279,7 @@ fn push_sum(page: &mut Vec<u8>, name: &str, durations: &Histogram) -> Result<(),
     ensures { OnOk result (page.new.items ≡ page.old.items ++ sum_text name.now durations.now) }
 {
     push_all(page, &[name, "_sum "])?;
-    push_seconds(page, durations.sum_ms)?;
+    push_seconds(page, durations.sum_us)?;
     push_all(page, &["\n"])
 }
 
@@ -286,7 +288,52 @@ fn push_bounds(page: &mut Vec<u8>, name: &str, durations: &Histogram) -> Result<
         ++ bounds_text name.now durations.now) }
 {
     for i in 0..BOUNDS {
-        push_bound(page, name, BOUNDS_MS[i], durations.at_most[i])?;
+        push_bound(page, name, BOUNDS_US[i], durations.at_most[i])?;
+    }
+    Ok(())
+}
+
+fn push_host_durations(
+    page: &mut Vec<u8>,
+    name: &str,
+    about: &About<'_>,
+    snapshot: &Snapshot,
+) -> Result<(), AllocError>
+    ensures { OnOk result (page.new.items ≡ page.old.items
+        ++ host_durations_text about.now snapshot.now name.now) }
+{
+    for i in 0..about.host_count() {
+        push_histogram_of(page, name, about.host_name(i), &snapshot.host_durations[i])?;
+    }
+    Ok(())
+}
+
+fn push_histogram_of(
+    page: &mut Vec<u8>,
+    name: &str,
+    host: &[u8],
+    durations: &Histogram,
+) -> Result<(), AllocError>
+    ensures { OnOk result (page.new.items ≡ page.old.items
+        ++ host_histogram_text name.now host.now durations.now) }
+{
+    push_host_bounds(page, name, host, durations)?;
+    push_last_host_bound(page, name, host, durations.total)?;
+    push_host_sum(page, name, host, durations.sum_us)?;
+    push_host_count(page, name, host, durations.total)
+}
+
+fn push_host_bounds(
+    page: &mut Vec<u8>,
+    name: &str,
+    host: &[u8],
+    durations: &Histogram,
+) -> Result<(), AllocError>
+    ensures { OnOk result (page.new.items ≡ page.old.items
+        ++ host_bounds_text name.now host.now durations.now) }
+{
+    for i in 0..BOUNDS {
+        push_host_bound(page, name, host, BOUNDS_US[i], durations.at_most[i])?;
     }
     Ok(())
 }

@@ -85,8 +85,8 @@ pub struct ProcessUse {
     /// The bytes of its memory that are in the machine's.
     pub resident: u64,
 
-    /// Its processor time, in milliseconds.
-    pub cpu_ms: u64,
+    /// Its processor time, in microseconds.
+    pub cpu_us: u64,
 
     /// The number of its open files, sockets among them.
     pub files: u64,
@@ -99,7 +99,7 @@ impl ProcessUse {
     /// The system tells nothing.
     pub const UNKNOWN: ProcessUse = ProcessUse {
         resident: 0,
-        cpu_ms: 0,
+        cpu_us: 0,
         files: 0,
         began: 0,
     };
@@ -140,6 +140,9 @@ pub struct Snapshot {
 
     /// The faults of each host's links, by its number, over all generations.
     pub faults: [HostFaults; MAX_HOSTS],
+
+    /// How long each host took for its replies, by its number, over all generations.
+    pub host_durations: [Histogram; MAX_HOSTS],
 
     /// The number of lines of generations; a single one isn't told of by itself.
     pub lines: usize,

@@ -11,6 +11,7 @@ use proxy_config::Config;
 use proxy_connections::Round;
 use proxy_generations::{Marks, Mode, Phase};
 use proxy_notices::Notices;
+use proxy_server::Moment;
 use std::alloc::Global;
 use std::rt::Clock;
 use std::sync::Arc;
@@ -230,12 +231,18 @@ impl<'a> GenerationState<'a> {
     }
 
     /// A round at this moment of the worker whose sockets are registered here.
-    pub(crate) fn round<'r>(&'r self, registry: &'r Registry, mode: Mode, now: u64) -> Round<'r> {
+    pub(crate) fn round<'r>(
+        &'r self,
+        registry: &'r Registry,
+        mode: Mode,
+        now: Moment,
+    ) -> Round<'r> {
         Round {
             room: &self.room,
             notices: self.notices(),
             registry,
-            now,
+            now: now.ms,
+            now_us: now.us,
             most_parts: self.most_parts,
             gives_up: mode.gives_up,
             ends_inputs: mode.ends_inputs,

@@ -10,7 +10,7 @@ use proxy_exit_status::Ending;
 use proxy_generations::{Change, Mode, Phase};
 use proxy_notices::Place;
 use proxy_serve_core::Refusals;
-use proxy_server::{Stop, now};
+use proxy_server::{Moment, Stop};
 use proxy_stats::TalliedCore;
 use std::marker::Model;
 use std::net::Net;
@@ -33,7 +33,7 @@ const IDLE_MS: u64 = 10;
 // The most milliseconds until it looks for sockets in its queue, though nothing woke it.
 const QUEUE_MS: u64 = 10;
 
-// The milliseconds between two reports of its commands' durations.
+// The milliseconds between two reports of durations: its commands' and its hosts'.
 const REPORT_MS: u64 = 10;
 
 // The most milliseconds until it steps a client, though nothing told of it.
@@ -143,7 +143,7 @@ impl<'a> WorkerSetup<'a> {
             connections: WorkerConnections::new(alloc, place, config, behind, seat)?,
             reply_ms: config.reply_ms,
             opening: Refusals::new(),
-            now: 0,
+            now: Moment::FIRST,
             lacks_memory: false,
             undrained: 0,
             may_have_sockets: true,
@@ -187,7 +187,8 @@ struct Worker<'a> {
     reply_ms: u32,
     // Consecutive refusals of memory to the first socket in the queue.
     opening: Refusals,
-    now: u64,
+    // Read once a round, and the microseconds again before what clients brought is sent.
+    now: Moment,
     // Something in this round found no memory.
     lacks_memory: bool,
     // The first client that may not drain yet, once the worker does.
@@ -346,6 +347,16 @@ impl<'a> Worker<'a> {
         if reported.total > 0 {
             self.generation.line().add_durations(rt, &reported);
         }
+        for index in 0..self.connections.host_count() {
+            self.report_host_time(rt, index);
+        }
+    }
+
+    fn report_host_time<R: Wait>(&mut self, rt: &R, index: usize) {
+        if let Some(time) = self.connections.take_host_time(index) {
+            let line = self.generation.line();
+            line.add_host_durations(rt, time.host, &time.durations);
+        }
     }
 
     // Ends its clients' inputs once the server drains.
@@ -390,10 +401,10 @@ impl<'a> Worker<'a> {
     }
 
     fn make_round<R: Wait + Net + Clock + Eprint>(&mut self, rt: &R) -> Result<Remaining, Stop> {
-        self.now = now(rt);
+        self.now = Moment::now(rt);
         self.lacks_memory = false;
-        if self.may_have_sockets || self.now.saturating_sub(self.accepted_at) >= QUEUE_MS {
-            self.accepted_at = self.now;
+        if self.may_have_sockets || self.now.ms.saturating_sub(self.accepted_at) >= QUEUE_MS {
+            self.accepted_at = self.now.ms;
             self.open_sockets(rt)?;
         }
         let undrained = if self.mode.drains {
@@ -402,17 +413,18 @@ impl<'a> Worker<'a> {
             Remaining::Nothing
         };
         let remaining = self.step_all(rt)?.or(undrained);
-        if self.now.saturating_sub(self.reported_at) >= REPORT_MS {
-            self.reported_at = self.now;
+        if self.now.ms.saturating_sub(self.reported_at) >= REPORT_MS {
+            self.reported_at = self.now.ms;
             self.report_durations(rt);
         }
         self.generation.wake_concerned(self.index());
         Ok(remaining)
     }
 
-    fn step_all<R: Wait + Net + Eprint>(&mut self, rt: &R) -> Result<Remaining, Stop> {
+    fn step_all<R: Wait + Net + Clock + Eprint>(&mut self, rt: &R) -> Result<Remaining, Stop> {
         let hosts = self.step_hosts(rt)?;
         let clients = self.step_clients(rt)?;
+        self.now.us = Moment::now(rt).us;
         let after = self.step_hosts(rt)?;
         Ok(hosts.or(clients).or(after))
     }

@@ -22,7 +22,7 @@ mod words;
 
 pub use line::{Inherited, Line};
 pub use log::{Level, Log};
-pub use moment::now;
+pub use moment::{Moment, now};
 pub use process::Extent;
 pub use server::Server;
 pub use stop::{Failure, Stop};

@@ -335,6 +335,11 @@ impl<C: Drop> Line<C> {
         self.stats.lock(rt).add_durations(durations);
     }
 
+    /// As [`HostDurations::add`](proxy_histogram::HostDurations::add).
+    pub fn add_host_durations<R: Wait>(&self, rt: &R, host: usize, durations: &Histogram) {
+        self.process.host_durations.lock(rt).add(host, durations);
+    }
+
     /// What the log says of hosts that its generations have ejected.
     pub fn ejections<R: Wait>(&self, rt: &R) -> MutexGuard<'_, EjectionLog> {
         self.ejections.lock(rt)

@@ -6,6 +6,7 @@ use crate::stop::Stop;
 use byte_sum::ByteSum;
 use mio::Waker;
 use open_sockets::OpenSockets;
+use proxy_histogram::HostDurations;
 use proxy_serve_core::{DrainPlan, FaultLog, RefusedSockets};
 use std::alloc::Global;
 use std::sync::{Arc, Mutex, Wait};
@@ -32,6 +33,7 @@ pub(crate) struct Process {
     pub(crate) refused: Mutex<RefusedSockets>,
     pub(crate) drain_plan: Mutex<DrainPlan>,
     pub(crate) extent: Extent,
+    pub(crate) host_durations: Mutex<HostDurations>,
     pub(crate) outs: Mutex<HostOuts>,
     // Of all journals.
     pub(crate) unfinished: Arc<ByteSum>,
@@ -47,6 +49,7 @@ impl Drop for Process {
             refused: _,
             drain_plan: _,
             extent: _,
+            host_durations: _,
             outs: _,
             unfinished: _,
         } = self;
@@ -69,6 +72,7 @@ impl Process {
             refused: Mutex::new(RefusedSockets::NONE),
             drain_plan: Mutex::new(DrainPlan::new()),
             extent,
+            host_durations: Mutex::new(HostDurations::new()),
             outs: Mutex::new(HostOuts::new()),
             unfinished: Arc::new(alloc, ByteSum::new())?,
         })

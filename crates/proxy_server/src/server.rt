@@ -206,6 +206,7 @@ impl<C: Drop> Server<C> {
             idle_closed: self.process.sockets.idle_closed(),
             refused: *self.process.refused.lock(rt),
             faults: *self.process.faults.lock(rt).hosts(),
+            host_durations: *self.process.host_durations.lock(rt).hosts(),
             lines: self.lines.len(),
             line_hosts: [LineHosts::NONE; MAX_LINES_SHOWN],
             durations: Histogram::new(),

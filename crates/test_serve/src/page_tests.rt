@@ -13,32 +13,38 @@ use std::alloc::Global;
 use std::str;
 use std::test::Fail;
 
-// Their sum is 33,336 ms; one is above the greatest bound.
-const DURATIONS_MS: [u64; 8] = [0, 1, 2, 3, 30, 300, 3_000, 30_000];
+// Their sum is 33,333,336 us; one is above the greatest bound.
+const DURATIONS_US: [u64; 8] = [0, 25, 26, 285, 3_000, 330_000, 3_000_000, 30_000_000];
 
 const LINES: [&str; 2] = [
     "redproxy_build_info{version=\"1.2.3\",kit=\"a \\\"kit\\\" of C:\\\\\"} 1\n",
-    "redproxy_command_duration_seconds_bucket{le=\"0.001\"} 2
-redproxy_command_duration_seconds_bucket{le=\"0.002\"} 3
-redproxy_command_duration_seconds_bucket{le=\"0.005\"} 4
-redproxy_command_duration_seconds_bucket{le=\"0.010\"} 4
-redproxy_command_duration_seconds_bucket{le=\"0.025\"} 4
-redproxy_command_duration_seconds_bucket{le=\"0.050\"} 5
-redproxy_command_duration_seconds_bucket{le=\"0.100\"} 5
-redproxy_command_duration_seconds_bucket{le=\"0.250\"} 5
-redproxy_command_duration_seconds_bucket{le=\"0.500\"} 6
-redproxy_command_duration_seconds_bucket{le=\"1.000\"} 6
-redproxy_command_duration_seconds_bucket{le=\"2.500\"} 6
-redproxy_command_duration_seconds_bucket{le=\"5.000\"} 7
+    "redproxy_command_duration_seconds_bucket{le=\"0.000025\"} 2
+redproxy_command_duration_seconds_bucket{le=\"0.000050\"} 3
+redproxy_command_duration_seconds_bucket{le=\"0.000100\"} 3
+redproxy_command_duration_seconds_bucket{le=\"0.000250\"} 3
+redproxy_command_duration_seconds_bucket{le=\"0.000500\"} 4
+redproxy_command_duration_seconds_bucket{le=\"0.001000\"} 4
+redproxy_command_duration_seconds_bucket{le=\"0.002000\"} 4
+redproxy_command_duration_seconds_bucket{le=\"0.005000\"} 5
+redproxy_command_duration_seconds_bucket{le=\"0.010000\"} 5
+redproxy_command_duration_seconds_bucket{le=\"0.025000\"} 5
+redproxy_command_duration_seconds_bucket{le=\"0.050000\"} 5
+redproxy_command_duration_seconds_bucket{le=\"0.100000\"} 5
+redproxy_command_duration_seconds_bucket{le=\"0.250000\"} 5
+redproxy_command_duration_seconds_bucket{le=\"0.500000\"} 6
+redproxy_command_duration_seconds_bucket{le=\"1.000000\"} 6
+redproxy_command_duration_seconds_bucket{le=\"2.500000\"} 6
+redproxy_command_duration_seconds_bucket{le=\"5.000000\"} 7
+redproxy_command_duration_seconds_bucket{le=\"10.000000\"} 7
 redproxy_command_duration_seconds_bucket{le=\"+Inf\"} 8
-redproxy_command_duration_seconds_sum 33.336
+redproxy_command_duration_seconds_sum 33.333336
 redproxy_command_duration_seconds_count 8\n",
 ];
 
 fn snapshot() -> Snapshot {
     let mut durations = Histogram::new();
-    for ms in DURATIONS_MS {
-        durations.record(ms);
+    for us in DURATIONS_US {
+        durations.record(us);
     }
     Snapshot {
         counts: Counts::NONE,
@@ -52,6 +58,7 @@ fn snapshot() -> Snapshot {
         idle_closed: 0,
         refused: RefusedSockets::NONE,
         faults: [HostFaults::NONE; MAX_HOSTS],
+        host_durations: [Histogram::new(); MAX_HOSTS],
         lines: 1,
         line_hosts: [LineHosts::NONE; MAX_LINES_SHOWN],
         durations,

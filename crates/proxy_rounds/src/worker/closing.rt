@@ -76,7 +76,7 @@ impl Worker<'_> {
     // Its client to be closed next, while too many bytes wait.
     fn find_stalled(&self) -> Option<usize> {
         if self.generation.line().has_too_much_waiting() {
-            self.connections.most_stalled(self.now)
+            self.connections.most_stalled(self.now.ms)
         } else {
             None
         }

@@ -32,7 +32,7 @@ impl Worker<'_> {
             cause,
             parts: link.lost,
         };
-        if let Some(lost) = line.note_fault(rt, link.host, loss, self.now) {
+        if let Some(lost) = line.note_fault(rt, link.host, loss, self.now.ms) {
             self.log_fault(rt, address, LostLink { lost, ..link });
         }
     }

@@ -62,7 +62,7 @@ impl Worker<'_> {
 
     // Clears the worker's hosts from those for which clients are held back, unless a link is still connecting.
     fn clear_pressed(&self, pressed: u64) {
-        if pressed == 0 || self.connections.is_connecting(self.now) {
+        if pressed == 0 || self.connections.is_connecting(self.now.ms) {
             return;
         }
         if self.generation.notices().mark_seen(self.index(), pressed) {
@@ -91,8 +91,8 @@ impl Worker<'_> {
     // client may depend on a notice.
     fn find_ready<R: Eprint>(&mut self, rt: &R) {
         self.connections.hear(self.generation.notices());
-        if self.now.saturating_sub(self.looked_at) >= ALL_CLIENTS_MS {
-            self.looked_at = self.now;
+        if self.now.ms.saturating_sub(self.looked_at) >= ALL_CLIENTS_MS {
+            self.looked_at = self.now.ms;
             self.connections.make_all_ready();
             self.close_stalled(rt);
             self.close_idle();
