@@ -13,10 +13,10 @@ pub returns-then-is_idle-clause-changes : goal.returns-then-is_idle-clause-chang
 returns-then-is_idle-clause-changes c = rw (← c.self.view_is) (changes_same _ _ _ c.in-Some.client.now _ _ (sym c.in-Some.ensures.value) c.end_idle.ensures.engine)
 
 pub returns-then-is_idle-clause-ends : goal.returns-then-is_idle-clause-ends
-returns-then-is_idle-clause-ends c = rw (← c.self.view_is) (has_idle _ _ _ _ c.in-Some.client.now (sym c.in-Some.ensures.value) _ c.is_idle-is_idle.ensures)
+returns-then-is_idle-clause-ends c = rw (← c.self.view_is) (has_idle c.args.round.now c.args.round.idle_ms c.args.key c.self.inside.clients c.in-Some.client.now (sym c.in-Some.ensures.value) c.is_idle-is_idle.result c.is_idle-is_idle.ensures)
 
 pub returns-else-is_idle-clause-changes : goal.returns-else-is_idle-clause-changes
 returns-else-is_idle-clause-changes c = rw (← c.self.view_is) (changes_same _ _ _ c.in-Some.client.now _ _ (sym c.in-Some.ensures.value) refl)
 
 pub returns-else-is_idle-clause-ends : goal.returns-else-is_idle-clause-ends
-returns-else-is_idle-clause-ends c = rw (← c.self.view_is) (has_idle _ _ _ _ c.in-Some.client.now (sym c.in-Some.ensures.value) _ c.is_idle-is_idle.ensures)
+returns-else-is_idle-clause-ends c = rw (← c.self.view_is) (has_idle c.args.round.now c.args.round.idle_ms c.args.key c.self.inside.clients c.in-Some.client.now (sym c.in-Some.ensures.value) c.is_idle-is_idle.result c.is_idle-is_idle.ensures)
