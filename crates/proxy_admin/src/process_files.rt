@@ -8,7 +8,7 @@ use std::io::{Read, Seek, SeekFrom};
 // The most bytes read of the process's numbers.
 const MAX_LINE: usize = 1_024;
 
-// Of the numbers behind the name: processor time for itself, and in the system, in hundredths of a second, and pages of memory.
+// Where numbers stand behind the name; times are in hundredths of a second.
 const OWN_TIME: usize = 11;
 const SYSTEM_TIME: usize = 12;
 const PAGES: usize = 21;
@@ -69,7 +69,7 @@ impl ProcessFiles {
     }
 }
 
-// What stands behind the program's name, which may have any character and ends with the last bracket.
+// What stands behind the program's name, which ends with the last bracket.
 fn behind_name(line: &[u8]) -> &[u8] {
     let mut start = 0;
     for i in 0..line.len() {

@@ -51,9 +51,9 @@ pub struct ServeOptions {
     pub connections: u64,
     /// The number of lines of generations.
     pub lines: u32,
-    /// A client that is idle for this many milliseconds is closed; 0: none is.
+    /// Milliseconds until an idle client is closed; 0: never.
     pub idle_ms: u64,
-    /// A drain begins this many milliseconds after its order.
+    /// Milliseconds from an order to its drain.
     pub drain_after_ms: u64,
     /// The operator's address for HTTP.
     pub metrics: Option<SocketAddr>,

@@ -112,6 +112,15 @@ pub enum Stepped {
     CarriedOver,
 }
 
+/// What was noted of a socket.
+#[derive(Clone, Copy, Drop)]
+struct SocketNotes {
+    // The bytes that had come when a command was last accepted.
+    begun: u64,
+    waiting: WaitingOutput,
+    idle: Idleness,
+}
+
 /// A socket on its way to the next generation, with its input that no command was made of and its unwritten output.
 ///
 /// A connection is opened on it there. Where it is dropped it is closed: the system gets what it takes of the output at once,
@@ -123,10 +132,7 @@ pub struct CarriedSocket {
     reader: Reader,
     writer: Writer,
     rest: Rest,
-    // The bytes that had come when a command was last accepted.
-    begun: u64,
-    waiting: WaitingOutput,
-    idle: Idleness,
+    noted: SocketNotes,
     sizes: ReplySizes,
 }
 
@@ -139,9 +145,7 @@ impl Drop for CarriedSocket {
             mut reader,
             mut writer,
             rest: _,
-            begun: _,
-            waiting: _,
-            idle: _,
+            noted: _,
             sizes: _,
         } = self;
         writer.write_out(&mut Vec::new(alloc));
@@ -182,23 +186,21 @@ impl CarriedSocket {
             mut reader,
             mut writer,
             rest,
-            begun,
-            waiting,
-            idle,
+            noted,
             sizes,
         } = self;
         reader.set_readable();
         writer.set_writable();
-        let unfinished = reader.count().saturating_sub(begun);
+        let unfinished = reader.count().saturating_sub(noted.begun);
         match ClientEngine::open_with(rt, turns, reader, writer, rest) {
             Ok(engine) => {
                 let counted = Counted::of(open_socket, open_connection);
                 let mut client = ClientConnection::new(alloc, engine, stream, counted);
-                client.begun = begun;
+                client.begun = noted.begun;
                 client.sizes = sizes;
                 client.unfinished = unfinished;
-                client.waiting = waiting;
-                client.idle = idle;
+                client.waiting = noted.waiting;
+                client.idle = noted.idle;
                 Ok(client)
             }
             Err((error, reader, writer, rest)) => Err((
@@ -210,9 +212,7 @@ impl CarriedSocket {
                     reader,
                     writer,
                     rest,
-                    begun,
-                    waiting,
-                    idle,
+                    noted,
                     sizes,
                 },
             )),
@@ -423,9 +423,11 @@ impl ClientConnection {
             reader,
             writer,
             rest,
-            begun,
-            waiting,
-            idle,
+            noted: SocketNotes {
+                begun,
+                waiting,
+                idle,
+            },
             sizes,
         }
     }
@@ -586,7 +588,7 @@ impl ClientConnection {
         ms > 0 && matches!(self.stage, SocketStage::Served) && self.idle.lasts(now, ms)
     }
 
-    /// Ends its input behind what has come, since its client is idle. That is counted.
+    /// Ends its input behind what has come, and counts that.
     pub(crate) fn end_idle(&mut self)
         ensures engine { self.new.engine ≡ self.old.engine }
         ensures stage { self.new.stage ≡ self.old.stage }

@@ -53,7 +53,7 @@ pub enum HostStepped {
 pub struct HostTime {
     /// The host's number.
     pub host: usize,
-    /// From the moment at which each part was sent to that of its reply.
+    /// From each part's sending to its reply.
     pub durations: Histogram,
 }
 

@@ -27,7 +27,7 @@ pub struct Round<'a> {
     pub carries_over: bool,
     /// Whether answers to clients that take in nothing more may be buffered without a bound.
     pub buffers_all: bool,
-    /// A client that is idle for this many milliseconds is closed; 0: none is.
+    /// Milliseconds until an idle client is closed; 0: never.
     pub idle_ms: u64,
 }
 

@@ -274,8 +274,7 @@ impl<'a> WorkerConnections<'a> {
         mem::replace(&mut self.lent.durations, Histogram::new())
     }
 
-    /// Takes the durations of the replies of the host with this index since the last call. `None`: there were no replies,
-    /// or there is no such host.
+    /// Takes the durations of a host's replies since the last call, by its index. `None`: there are none.
     pub fn take_host_time(&mut self, index: usize) -> Option<HostTime>
         ensures { ChangesHost index self.old self.new }
     {
@@ -402,8 +401,8 @@ impl<'a> WorkerConnections<'a> {
         self.ready.make_ready(key);
     }
 
-    /// Ends the input of the client with this key behind the bytes that have come, where it is served and has been idle for
-    /// `idle_ms` of the round; 0 is never. True: so it is, and that is counted.
+    /// Ends the input of the client with this key behind what has come, where it is served and has been idle for `idle_ms` of
+    /// the round; 0 is never. True: it does, and counts that.
     pub fn end_idle(&mut self, round: Round<'_>, key: usize) -> bool
         ensures changes { ChangesClient key self.old self.new }
         ensures ends { IsTrue result
@@ -602,7 +601,7 @@ fn make_told_ready(ready: &mut ReadyClients, notices: &Notices, worker: usize) {
     }
 }
 
-// A carried-over client may have been idle for long enough: no generation need be old for that.
+// (it may have been idle for long enough in generations before)
 fn begin_input(client: &mut ClientConnection, round: Round<'_>)
     ensures { client.new.engine ≡ client.old.engine }
 {

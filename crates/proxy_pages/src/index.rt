@@ -1,6 +1,6 @@
 //! The page for people.
 
-/// The page, in HTML: its script asks for `/metrics` again and again, and shows what came. It asks nobody else.
+/// The page: its script reads `/metrics` again and again, and asks nobody else.
 pub(crate) const INDEX: &str = r##"<!DOCTYPE html>
 <html lang='en'>
 <head>
@@ -47,7 +47,7 @@ const looks = [];
 const by = id => document.getElementById(id);
 const last = () => looks[looks.length - 1];
 
-// The page's text as a map from each name with its labels to its number.
+// Each number of a page, by its name with labels.
 function numbers(text) {
   const found = new Map();
   for (const line of text.split('\n')) {
@@ -70,7 +70,7 @@ function rate(start) {
   return ms ? sum(start, name => grown(name, look)) * 1000 / ms : NaN;
 }
 
-// The duration that this share of the last minute's commands stayed within, in seconds, as Prometheus reckons it.
+// A quantile of the last minute's durations, in seconds, as Prometheus reckons it.
 function quantile(metric, labels, share) {
   const look = since(MINUTE_MS), start = metric + '_bucket{' + labels;
   const bound = name => Number(label(name, 'le').replace('+Inf', 'Infinity'));

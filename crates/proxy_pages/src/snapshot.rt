@@ -82,13 +82,13 @@ impl LineHosts {
 /// What the process uses, as the system tells it; 0 where it doesn't.
 #[derive(Clone, Copy, Debug, PartialEq, Eq)]
 pub struct ProcessUse {
-    /// The bytes of its memory that are in the machine's.
+    /// Its bytes in memory.
     pub resident: u64,
 
     /// Its processor time, in microseconds.
     pub cpu_us: u64,
 
-    /// The number of its open files, sockets among them.
+    /// Its open files and sockets.
     pub files: u64,
 
     /// When it began, in seconds since 1970.

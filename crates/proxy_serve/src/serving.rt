@@ -33,15 +33,15 @@ pub struct Options {
     pub admin: Option<Admin>,
     /// `/proc/self/status`, which shows pending signals; `None`: signals aren't heeded.
     pub status: Option<File>,
-    /// Whether who started the program says that SIGTERM is blocked: it doesn't serve where signals aren't heeded.
+    /// Whether SIGTERM is said to be blocked: then it doesn't serve where signals aren't heeded.
     pub is_term_blocked: bool,
     /// The number of lines of generations, 1 to `MAX_LINES`, each with as many workers as the settings say.
     pub lines: u32,
     /// The number of closed connections after which it ends; 0 is never.
     pub connections: u64,
-    /// A client that is idle for this many milliseconds is closed; 0: none is.
+    /// Milliseconds until an idle client is closed; 0: never.
     pub idle_ms: u64,
-    /// A drain begins this many milliseconds after its order.
+    /// Milliseconds from an order to its drain.
     pub drain_after_ms: u64,
     /// The length of a journal at which the next one opens.
     pub marks: Marks,

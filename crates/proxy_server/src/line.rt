@@ -122,7 +122,7 @@ impl<C: Drop> Line<C> {
         self.process.sockets.has_too_much_waiting()
     }
 
-    /// A client that is idle for this many milliseconds is closed; 0: none is.
+    /// Milliseconds until an idle client is closed; 0: never.
     pub fn idle_ms(&self) -> u64 {
         self.process.extent.idle_ms
     }

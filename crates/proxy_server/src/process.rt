@@ -16,9 +16,9 @@ use std::sync::{Arc, Mutex, Wait};
 pub struct Extent {
     /// The number of lines of generations.
     pub lines: usize,
-    /// A client that is idle for this many milliseconds is closed; 0: none is.
+    /// Milliseconds until an idle client is closed; 0: never.
     pub idle_ms: u64,
-    /// A drain begins this many milliseconds after its order.
+    /// Milliseconds from an order to its drain.
     pub drain_after_ms: u64,
     /// The number of closed connections after which it ends; 0 is never.
     pub connections: u64,

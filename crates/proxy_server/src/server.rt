@@ -114,8 +114,8 @@ impl<C: Drop> Server<C> {
         };
     }
 
-    /// Orders a drain at this moment: it begins once the delay of the command line is over, by `follow_plan`. Until then
-    /// `/ready` is 503, and clients are served as before. A later order changes nothing.
+    /// Orders a drain, which begins after the command line's delay. Until then `/ready` is 503, and clients are served. A later
+    /// order changes nothing.
     pub fn order_drain<R: Wait + Eprint>(&self, rt: &R, now: u64) {
         let after_ms = self.process.extent.drain_after_ms;
         let was_ordered = {

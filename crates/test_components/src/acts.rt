@@ -12,7 +12,7 @@ use proxy_core::{Core, Event, Kind, Refusal, Request, Trip};
 use proxy_engines::{EngineError, Progress};
 use std::sync::Wait;
 
-// An act of a client, a host or the test, or a fact that must hold then.
+// An act, or a fact that must hold then.
 #[derive(Clone, Copy)]
 pub(crate) enum Act {
     // The next of two clients connects and sends this.
@@ -21,7 +21,7 @@ pub(crate) enum Act {
     // The first client sends this from now on.
     Says(Feed),
     IsShut(bool),
-    // The next host that asks for a link gets this one, after those added before it.
+    // The next host that asks for a link gets this one.
     Links(Link),
     // Hosts that are no stubs send this from now on.
     HostSays(Feed),

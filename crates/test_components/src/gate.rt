@@ -185,8 +185,8 @@ pub(crate) fn outcome_of(turn: Result<u64, TurnRefusal<AdditionRefusal, u64>>) -
     }
 }
 
-// Of a total's steps: the number for each of four passes, whether all are of these and in order, their number, and
-// their sum.
+// Of a total's steps: how many each of four passes has, whether all are theirs and in order, how
+// many there are, and their sum.
 type TotalFacts = ([u64; 4], bool, u64, u64);
 
 fn found(state: Option<RunningTotal>, passes: usize) -> Option<TotalFacts> {
@@ -230,8 +230,7 @@ fn make_turns<R: Wait>(
     (turns.into_pass(), answered)
 }
 
-// Both passes make turns in their own threads. Returns the first pass, the numbers of answered turns, and the passes'
-// numbers.
+// Both passes make turns in threads. Returns the first pass, the numbers of answered turns, and the passes' numbers.
 fn fill_both<R: thread::Threads + Wait + Sync>(
     rt: &R,
     gate: &Gate<RunningTotal>,

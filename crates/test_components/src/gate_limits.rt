@@ -88,8 +88,7 @@ fn ends_with(state: Option<RunningTotal>, steps: &[(u64, u64)]) -> bool {
     is_so
 }
 
-// Plays two passes' acts at a gate with this first ticket, around a total with this limit. Compares the steps at the
-// end.
+// Plays two passes' acts at a gate with this first ticket, around a total with this limit.
 fn check<R: Wait + AllocGlobal>(
     rt: &R,
     (first, limit): (u64, u64),

@@ -45,8 +45,7 @@ fn half_replies_are_lost(rt: HostRuntime) -> Result<(), Fail> {
     Ok(())
 }
 
-// The first of two replies answers the request, and the second is one bad result. The host is ejected at the fourth
-// fault after it.
+// The first reply answers the request, and the second is one bad result. The fourth fault after it ejects the host.
 const SECOND_REPLY: &[Act] = &[
     Act::Opens(Feed::Whole(SET), Ends::FREE),
     Act::HostSays(Feed::Open(b"+OK\r\n+OK\r\n")),
@@ -109,7 +108,7 @@ const BULK: &[Act] = &[
     Act::Runs(3),
 ];
 
-// The last one has 65,426 bytes: 7 times 8,192, and 8,082. The reply then has 8,388,608, and goes out unchanged.
+// The last one has 65,426 bytes. The reply then has 8,388,608, and goes out unchanged.
 const GREATEST: &[Act] = &[
     Act::HostSays(Feed::Then(b"$65426\r\n", ZEROS, 7)),
     Act::Runs(3),

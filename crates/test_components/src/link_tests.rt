@@ -1,4 +1,4 @@
-//! The ends of a link to a stub: requests in pieces and many at a time, scripts, and unread replies.
+//! The ends of a link to a stub: pieces, pipelines, scripts and unread replies.
 
 use crate::fake_devices::{Taken, Text};
 use crate::rig::stub;
@@ -62,7 +62,7 @@ fn is_over(reader: &mut StubReader, writer: &mut StubWriter) -> bool {
     refuses(writer, ErrorKind::BrokenPipe) && matches!(reader.read(&mut [0; 8]), Ok(0))
 }
 
-// The acts of an empty stub, the requests, the replies, and whether the link has ended then.
+// An empty stub's acts, the requests, the replies, and whether the link has ended then.
 type Talk = (&'static [Act], &'static [u8], &'static [u8], bool);
 
 const INCR: &[u8] =
@@ -112,8 +112,7 @@ fn goes(alloc: Global, talk: &Talk, step: usize) -> Result<bool, Fail> {
     Ok(is_right && stays)
 }
 
-// It passes also where one allocation is refused (`rt try --test --fail-alloc N`). A failure names the index of the
-// talk and the length of the pieces.
+// A failure names the index of the talk and the length of the pieces.
 #[test]
 fn links_serve_by_their_scripts(rt: HostRuntime) -> Result<(), Fail> {
     for (place, talk) in TALKS.iter().enumerate() {

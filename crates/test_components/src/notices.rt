@@ -1,4 +1,4 @@
-//! What turns tell workers: each worker hears of its own hosts and clients, and of nothing twice or never.
+//! What turns tell workers: each hears of its own hosts and clients, once.
 
 use proxy_notices::{MAX_KEYS, MAX_WORDS, Notices, ReadyWord};
 use std::alloc::Global;

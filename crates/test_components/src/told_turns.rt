@@ -1,4 +1,4 @@
-//! What the turns of a core that counts tell its workers: who must hear of a turn does, and nobody else.
+//! What the turns of a core that counts tell its workers.
 
 use crate::counting_journals::counting_core;
 use crate::next_replies::{Move, event};

@@ -97,8 +97,8 @@ fn set_and_get<R: Net<Listener = net::TcpListener, Stream = TcpStream> + AllocGl
     Ok(say(rt, address, &asked)? == wanted)
 }
 
-// Two such clients at a time, before two hosts. Returns whether both hosts were asked, the server ended well and each
-// client got its replies; and the last line.
+// Two such clients before two hosts. Returns whether both were asked, the server ended well and each got its replies;
+// and the last line.
 fn play<
     R: AllocGlobal
         + Threads

@@ -1,5 +1,5 @@
-//! Tests of `serve` that need marks of their own, or that the gate has to run, with all ends in one process on
-//! sockets of the loopback; and of the operator's page. It stands on `proxy_serve`. Begin with `rig.rt`.
+//! Tests of `serve` with marks of their own and all ends in one process, and of the operator's page. It stands on
+//! `proxy_serve`. Begin with `rig.rt`.
 #![tactic(auto)]
 
 #[cfg(test)]

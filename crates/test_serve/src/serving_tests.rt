@@ -13,7 +13,7 @@ use std::{io, net};
 
 const SETTINGS: &[u8] = b"{\"hosts\":[\"127.0.0.1:1\"],\"workers\":2}";
 
-// Reads this many bytes. False: the connection ended before.
+// Reads this many bytes. False: it ended before.
 fn hears(mut wire: &TcpStream, bytes: usize) -> bool {
     let mut piece = [0u8; 4_096];
     let mut got = 0usize;
@@ -60,8 +60,7 @@ fn ask_each<R: Net<Listener = net::TcpListener, Stream = TcpStream> + AllocGloba
     Ok(all)
 }
 
-// Serves the two lists of clients side by side, those of a list one after another. Returns each number of answers,
-// and the last line.
+// Serves two lists of clients side by side. Returns each number of answers, and the last line.
 fn run<
     R: AllocGlobal
         + Threads
@@ -117,8 +116,7 @@ const FEW: Marks = Marks {
     bytes: 58_720_256,
 };
 
-// A client asks this many times. Its generation drains long before, even if the thread that looks at marks is delayed,
-// and its socket goes on in the next one.
+// A client asks this many times. Long before, its socket goes on in the next generation.
 const TIMES: u32 = 2_000;
 
 fn sum(counts: &[u32]) -> u32 {
@@ -156,8 +154,7 @@ fn pipelining_clients_go_on(rt: HostRuntime) -> Result<(), Fail> {
     Ok(())
 }
 
-// Without marks a generation accepts what its journal has room for, 262,144 steps: four for a connection, two for each
-// PING. The rest goes over to the next one, with its socket.
+// Without marks a generation accepts what 262,144 steps are for: four a connection, two a PING. The rest goes over.
 #[test]
 fn full_journal_is_followed_by_another(rt: HostRuntime) -> Result<(), Fail> {
     let marks = Marks {
