@@ -173,11 +173,7 @@ impl OpenSockets {
     }
 
     /// Counts an accepted stream of this line; or it is closed and gone.
-    pub fn admit(
-        &self,
-        line: usize,
-        stream: FreshStream,
-    ) -> Result<AdmittedStream, NotAdmitted> {
+    pub fn admit(&self, line: usize, stream: FreshStream) -> Result<AdmittedStream, NotAdmitted> {
         let Ok(shared) = Arc::try_clone(&self.shared) else {
             self.shared.count_gone(line);
             return Err(NotAdmitted::NoMemory);

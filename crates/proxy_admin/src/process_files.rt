@@ -10,7 +10,9 @@ const MAX_LINE: usize = 1_024;
 
 // Where numbers stand behind the name; times are in hundredths of a second.
 const OWN_TIME: usize = 11;
+
 const SYSTEM_TIME: usize = 12;
+
 const PAGES: usize = 21;
 
 const TICK_US: u64 = 10_000;
@@ -90,7 +92,9 @@ fn number_at(words: &[u8], index: usize) -> u64 {
         match *byte {
             b' ' => at = at.saturating_add(1),
             digit @ b'0'..=b'9' if at == index => {
-                number = number.saturating_mul(10).saturating_add(u64::from(digit - b'0'));
+                number = number
+                    .saturating_mul(10)
+                    .saturating_add(u64::from(digit - b'0'));
             }
             _ => {}
         }

@@ -11,7 +11,7 @@ module _ (now ms key : ℕ) (clients : Slab ClientConnection) (client : ClientCo
   has_idle same = (
     λ yes. (client, is, same.0 yes),
     λ h.
-      let (one, at, idle) = h in
-      let is_one : one ≡ client = cc in
-      same.1 (subst (λ (c : ClientConnection). IsIdleFor now ms c.stage c.idle) is_one idle),
+        let (one, at, idle) = h in
+        let is_one : one ≡ client = cc in
+        same.1 (subst (λ (c : ClientConnection). IsIdleFor now ms c.stage c.idle) is_one idle),
   )

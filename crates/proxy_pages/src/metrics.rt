@@ -132,22 +132,12 @@ fn push_causes(page: &mut Vec<u8>, name: &str, counts: &Counts) -> Result<(), Al
     push_labelled(page, name, "cause", "proxy_busy", counts.busy)
 }
 
-fn push_refusals(
-    page: &mut Vec<u8>,
-    name: &str,
-    refused: &RefusedSockets,
-) -> Result<(), AllocError>
+fn push_refusals(page: &mut Vec<u8>, name: &str, refused: &RefusedSockets) -> Result<(), AllocError>
     ensures { OnOk result (page.new.items ≡ page.old.items
         ++ refusals_text name.now refused.now) }
 {
     push_labelled(page, name, "cause", "full", refused.full.count)?;
-    push_labelled(
-        page,
-        name,
-        "cause",
-        "no_file_number",
-        refused.no_file.count,
-    )?;
+    push_labelled(page, name, "cause", "no_file_number", refused.no_file.count)?;
     push_labelled(page, name, "cause", "no_memory", refused.no_memory.count)
 }
 

@@ -17,11 +17,10 @@ use proxy_server::{Extent, Inherited, Log, Stop};
 use proxy_stats::Counts;
 use std::alloc::{AllocError, Global};
 use std::fs::File;
-use std::io;
 use std::io::Write;
 use std::net::Net;
 use std::sync::Wait;
-use std::thread;
+use std::{io, thread};
 
 // The most events that the accepting thread takes at once.
 const MAX_EVENTS: usize = 4;

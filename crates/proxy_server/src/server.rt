@@ -75,11 +75,7 @@ impl<C: Drop> Server<C> {
     }
 
     /// As [`OpenSockets::admit`](open_sockets::OpenSockets::admit).
-    pub fn admit(
-        &self,
-        line: usize,
-        stream: FreshStream,
-    ) -> Result<AdmittedStream, NotAdmitted> {
+    pub fn admit(&self, line: usize, stream: FreshStream) -> Result<AdmittedStream, NotAdmitted> {
         self.process.sockets.admit(line, stream)
     }
 

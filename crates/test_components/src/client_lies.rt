@@ -1,4 +1,4 @@
-//! Clients whose readers and writers fail, whose writers take nothing, or that never read.
+//! Clients whose readers and writers fail or stop, or that never read.
 
 use crate::acts::{Act, Fault, STUBS, Scene, play};
 use crate::fake_devices::{Feed, Text};

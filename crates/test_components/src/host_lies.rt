@@ -11,7 +11,7 @@ use std::sync::Wait;
 use std::test::Fail;
 use stub_server::Act as Serves;
 
-// A host sends this part of a reply and ends: its link is dropped, and the part is lost.
+// A host sends this part of a reply and ends. The part is lost.
 fn check_half<Rt: Wait + AllocGlobal>(rt: &Rt, half: &'static [u8]) -> Result<(), Fault> {
     let says = [Act::HostSays(Feed::Whole(half))];
     let scene = Scene {

@@ -10,7 +10,7 @@ use std::io::{ErrorKind, Read, Write};
 use std::test::Fail;
 use stub_server::{Act, MAX_TAKEN, MAX_UNREAD, StubReader, StubWriter};
 
-// It is made again if memory was refused.
+// (again if memory was refused)
 fn link(alloc: Global, acts: &[Act]) -> Result<(StubReader, StubWriter), EngineError> {
     match stub(alloc, acts) {
         Ok(ends) => Ok(ends),
@@ -33,7 +33,7 @@ fn listen(reader: &mut StubReader, said: &Taken) -> io::Result<bool> {
     Ok(false)
 }
 
-// It tries again if memory was refused.
+// (again if memory was refused)
 fn keep(said: &Taken, bytes: &[u8]) -> io::Result<()> {
     if said.keep(bytes).is_ok() {
         return Ok(());
@@ -41,7 +41,7 @@ fn keep(said: &Taken, bytes: &[u8]) -> io::Result<()> {
     said.keep(bytes)
 }
 
-// It tries again if nothing was taken. Returns the number of bytes taken.
+// (again if nothing was taken) Returns the number of bytes taken.
 fn say(writer: &mut StubWriter, piece: &[u8]) -> usize {
     for _ in 0..2 {
         if let Ok(count) = writer.write(piece) {

@@ -231,7 +231,7 @@ impl<'a> Rig<'a> {
         }
     }
 
-    // Opens the connection of the next of two clients. A refused turn is made again, once.
+    // Opens the next of two clients' connections. A refused turn is made again, once.
     pub(crate) fn open<Rt: Wait + AllocGlobal>(
         &mut self,
         rt: &Rt,
