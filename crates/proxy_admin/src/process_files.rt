@@ -79,7 +79,7 @@ fn behind_name(line: &[u8]) -> &[u8] {
             start = i;
         }
     }
-    match line.get(start + 2..) {
+    match line.get(start.saturating_add(2)..) {
         Some(numbers) => numbers,
         None => &[],
     }
