@@ -5,7 +5,7 @@ use Rattle.proxy_connections.proofs.client_connection.ClientConnection.run_once.
 
 pub returns-clause-keeps : goal.returns-clause-keeps
 returns-clause-keeps g c =
-    rw (c.finish_closing.ensures.engine, c.note_waiting.ensures.engine) (elim c.match-self.branch [
+    rw (c.finish_closing.ensures.engine, c.note_rest.ensures.engine, c.note_waiting.ensures.engine) (elim c.match-self.branch [
       | in-Served w ↦ rw w.self-is (rw w.turns-is (KeepsSocket-passes_on _ _ _ w.relieve.ensures.engine))
       | in-Served-2+in_ok-step_and_write-in-Served-2 w ↦ rw w.self-is (rw w.turns-is w.step_and_write.ensures.keeps)
       | in-Leaving w ↦ rw w.self-is (rw w.turns-is (KeepsSocket-passes_on _ _ _ w.write_out.ensures.engine))
@@ -14,7 +14,7 @@ returns-clause-keeps g c =
 
 pub returns-then-may_carry_over-clause-keeps : goal.returns-then-may_carry_over-clause-keeps
 returns-then-may_carry_over-clause-keeps g c =
-    rw c.note_waiting.ensures.engine (elim c.match-self.branch [
+    rw (c.note_rest.ensures.engine, c.note_waiting.ensures.engine) (elim c.match-self.branch [
       | in-Served w ↦ rw w.self-is (rw w.turns-is (KeepsSocket-passes_on _ _ _ w.relieve.ensures.engine))
       | in-Served-2+in_ok-step_and_write-in-Served-2 w ↦ rw w.self-is (rw w.turns-is w.step_and_write.ensures.keeps)
       | in-Leaving w ↦ rw w.self-is (rw w.turns-is (KeepsSocket-passes_on _ _ _ w.write_out.ensures.engine))
