@@ -18,6 +18,7 @@ abbrev pub is_unknown : Local → Bool
 is_unknown Local.Unsupported = true
 is_unknown name = false
 
+-- whether a plan is to answer that the command is unknown
 abbrev pub is_refused : Plan → Bool
 is_refused (here name v) = is_unknown name
 is_refused (leave name v) = false

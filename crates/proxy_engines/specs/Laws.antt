@@ -39,6 +39,7 @@ pub record IsCutBehind (engine : Client) (steps : History) (requests : List Requ
   pub closing : engine.is_closing ≡ true → (asked_requests engine.conn steps ≡ up_to_closing engine.behind requests) × (engine.stage ≢ Stage.Open)
   pub goes_on : engine.is_closing ≡ false → NoneCloses engine.behind (asked_requests engine.conn steps)
 
+-- So it is with each client, whatever requests its bytes ask.
 abbrev pub RefusedClose : Type 0
 RefusedClose = (e : Client) (H : History) (taken b : List ℕ) → Carries e H taken b
     → (rs : List Request) → AreRequests b rs → IsCutBehind e H rs

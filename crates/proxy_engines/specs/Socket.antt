@@ -134,6 +134,7 @@ pub record IsSocketCut (pasts : List Past) (engine : Client) (steps : History) (
   pub closing : engine.is_closing ≡ true → asked_before pasts ++ asked_requests engine.conn steps ≡ up_to_closing engine.behind requests
   pub goes_on : engine.is_closing ≡ false → NoneCloses engine.behind (asked_before pasts ++ asked_requests engine.conn steps)
 
+-- So it is with each socket, whatever requests its bytes ask.
 abbrev pub SocketCloses : Type 0
 SocketCloses = (ps : List Past) (e : Client) (H : History) (taken b : List ℕ) → CarriesOn ps e H taken b
     → (rs : List Request) → AreRequests b rs → IsSocketCut ps e H rs
@@ -143,6 +144,7 @@ pub record IsSocketAnswered (pasts : List Past) (engine : Client) (steps : Histo
   pub all_handed : handed_count engine.conn steps ≡ accepted_count engine.conn steps
   pub taken_is : taken ≡ said_before pasts ++ transcript engine.conn steps
 
+-- So it is with each socket whose connection has ended without a fault.
 abbrev pub SocketClosesAnswered : Type 0
 SocketClosesAnswered = (ps : List Past) (e : Client) (H : History) (taken b : List ℕ) → CarriesOn ps e H taken b
     → e.stage ≡ Stage.Closed false → IsSocketAnswered ps e H taken

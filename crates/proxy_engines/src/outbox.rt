@@ -89,7 +89,8 @@ impl<W: WriteTally> Outbox<W> {
     }
 
     pub(crate) fn writer_mut(&mut self) -> &mut W
-        ensures* writes_back { sem 𝓛 (lends_writer W.row (record { taken = W.taken; passed = W.passed })
+        ensures* writes_back { sem 𝓛 (lends_writer W.row
+            (record { taken = W.taken; passed = W.passed })
             (record { contents = W.contents }) (record { counts = W.counts }) self.entry result) }
         ensures value { self.old ≡ with_writer self.old
             (writer_state W.contents W.taken W.passed W.counts result.now) }
