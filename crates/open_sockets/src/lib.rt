@@ -6,8 +6,10 @@
 mod line_sockets;
 mod open_sockets;
 mod sockets;
+mod traffic;
 
 pub use line_sockets::LineSockets;
 pub use open_sockets::{
     AdmittedStream, MAX_LINES, MAX_WAITING_BYTES, NotAdmitted, OpenSocket, OpenSockets,
 };
+pub use traffic::{Traffic, WorkerTraffic};

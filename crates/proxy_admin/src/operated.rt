@@ -11,8 +11,8 @@ pub trait Operated {
     /// The clock's milliseconds.
     fn moment<R: Clock>(&self, rt: &R) -> u64;
 
-    /// Its numbers now.
-    fn snapshot<R: Wait>(&self, rt: &R) -> Snapshot;
+    /// Its numbers at this moment.
+    fn snapshot<R: Wait>(&self, rt: &R, moment: u64) -> Snapshot;
 
     /// Carries out an order that came at this moment.
     fn obey<R: Wait + Eprint>(&self, rt: &R, order: Order, moment: u64);

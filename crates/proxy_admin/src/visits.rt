@@ -118,7 +118,7 @@ impl Visits {
         if self.visitors.is_empty() {
             return;
         }
-        let mut snapshot = server.snapshot(rt);
+        let mut snapshot = server.snapshot(rt, moment);
         snapshot.process = self.admin.process.process_use();
         let about = About {
             version: self.admin.version,

@@ -68,12 +68,13 @@ module _ (now : ℕ) (clients : Slab ClientConnection) (end : ℕ) (most : Stall
   pub none_is_stalled : most.bytes ≡ 0 → NoneIsStalled now clients
   none_is_stalled none key client there = let few = within key client there in omega (arith, few, none)
 
-  pub is_most : (most.bytes ≡ 0 → ⊥) → IsMostStalled now clients most.key
+  pub is_most : (most.bytes ≡ 0 → ⊥) → IsMostStalled now clients most
   is_most some =
       let (client, there, is) = m.there (omega (arith, some)) in
       record {
         client = client;
         there = there;
-        is_stalled = rw is (omega (arith, some));
-        most = λ other one at_other. rw is (within other one at_other);
+        waits = is;
+        is_stalled = omega (arith, some);
+        most = within;
       }

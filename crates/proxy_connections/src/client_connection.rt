@@ -23,7 +23,7 @@ use journal_room::{
 use limits::{LINGER_MS, MAX_BUFFERED, MAX_SPARED};
 use mio::event::Event as Readiness;
 use mio::{Registry, Token};
-use open_sockets::{AdmittedStream, OpenSocket};
+use open_sockets::{AdmittedStream, OpenSocket, Traffic};
 use proxy_engines::{ClientEnds, ClientEngine, EngineError, Progress, Rest};
 use proxy_exit_status::Ending;
 use proxy_histogram::{Histogram, Unanswered};
@@ -31,7 +31,7 @@ use proxy_serve_core::{ClientSight, Idleness, Refusals};
 use socket_halves::Discarded;
 use std::alloc::Global;
 use std::marker::Model;
-use std::sync::Wait;
+use std::sync::{Arc, Wait};
 
 // The most steps of one connection in a round, so that one pipeline doesn't starve the others.
 const MAX_CLIENT_STEPS: u32 = 256;
@@ -57,6 +57,7 @@ pub(crate) struct NewSocket<'a> {
     pub(crate) stream: AdmittedStream,
     pub(crate) open_connection: OpenConnection,
     pub(crate) behind: &'a CloseBehind,
+    pub(crate) traffic: &'a Arc<Traffic>,
 }
 
 /// Where a connection is opened on a carried-over socket.
@@ -324,6 +325,7 @@ impl ClientConnection {
             stream,
             open_connection,
             behind,
+            traffic,
         } = new;
         let (stream, open_socket) = stream.into_parts();
         let Ok(
@@ -332,7 +334,7 @@ impl ClientConnection {
                 reader,
                 writer,
             },
-        ) = Socket::new(alloc, stream)
+        ) = Socket::new(alloc, stream, traffic)
         else {
             return Err(EngineError::NoMemory);
         };

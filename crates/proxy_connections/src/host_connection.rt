@@ -17,13 +17,14 @@ use journal_room::{HeldTurns, JournalRoom, MeteredTurns, TurnCounts};
 use limits::MAX_HOSTS;
 use mio::Token;
 use mio::event::Event as Readiness;
+use open_sockets::Traffic;
 use proxy_engines::{EngineError, HostEngine, Progress};
 use proxy_exit_status::Ending;
 use proxy_histogram::{Flights, Histogram};
 use proxy_serve_core::Refusals;
 use std::alloc::Global;
 use std::net::{Net, SocketAddr};
-use std::sync::Wait;
+use std::sync::{Arc, Wait};
 
 // The most steps of one host in a round, and the most sends before each step.
 const MAX_HOST_STEPS: u32 = 4_096;
@@ -74,6 +75,8 @@ pub(crate) struct HostConnection {
     // It is still to be told.
     lost_link: Option<LostLink>,
     flights: Flights,
+    // What its links have moved, beside those of the worker's other hosts.
+    traffic: Arc<Traffic>,
 }
 
 impl Drop for HostConnection {
@@ -90,6 +93,7 @@ impl Drop for HostConnection {
             is_asked: _,
             lost_link: _,
             flights: _,
+            traffic: _,
         } = self;
     }
 }
@@ -101,6 +105,7 @@ impl HostConnection {
         address: SocketAddr,
         token: Token,
         reply_ms: u64,
+        traffic: Arc<Traffic>,
     ) -> HostConnection
         ensures host { result.engine.outbox.host ≡ host }
         ensures address { result.link ≡ address }
@@ -118,6 +123,7 @@ impl HostConnection {
             is_asked: false,
             lost_link: None,
             flights: Flights::new(alloc),
+            traffic,
         }
     }
 
@@ -655,7 +661,7 @@ impl HostConnection {
                 reader,
                 writer,
             },
-        ) = Socket::new(self.alloc, stream)
+        ) = Socket::new(self.alloc, stream, &self.traffic)
         else {
             return Err(StepError::Memory);
         };

@@ -26,5 +26,6 @@ pub use host_connection::{HostStepped, HostTime};
 pub use host_fault::{HostFault, LostLink, PassedLimit};
 pub use laws::{assigned_hosts_have_one_pass, hosts_have_their_workers, passes_share_no_host};
 pub use round::Round;
+pub use stalled::Stalled;
 pub use step_error::StepError;
 pub use worker_connections::{ClientResult, HOSTS, HostResult, WorkerConnections};

@@ -10,6 +10,7 @@ use mio::event::Event;
 use mio::net::TcpStream;
 use mio::unix::SourceFd;
 use mio::{Interest, Registry, Token};
+use open_sockets::Traffic;
 use socket_halves::{SocketReader, SocketWriter};
 use std::alloc::{AllocError, Global};
 use std::io;
@@ -28,6 +29,7 @@ pub(crate) type Writer = SocketWriter<SharedStream>;
 #[derive(Drop)]
 pub(crate) struct SharedStream {
     stream: Arc<UsedStream>,
+    traffic: Arc<Traffic>,
 }
 
 impl Model for SharedStream {
@@ -40,11 +42,18 @@ impl Model for SharedStream {
 }
 
 impl SharedStream {
-    fn new(alloc: Global, stream: FreshStream) -> Result<SharedStream, AllocError>
+    fn new(
+        alloc: Global,
+        stream: FreshStream,
+        traffic: &Arc<Traffic>,
+    ) -> Result<SharedStream, AllocError>
         ensures { IfOk result (λ s. s ≡ stream) }
     {
+        let Ok(traffic) = Arc::try_clone(traffic) else {
+            return Err(AllocError);
+        };
         match Arc::new(alloc, stream.into_used()) {
-            Ok(stream) => Ok(SharedStream { stream }),
+            Ok(stream) => Ok(SharedStream { stream, traffic }),
             Err(_) => Err(AllocError),
         }
     }
@@ -52,8 +61,11 @@ impl SharedStream {
     fn share(&self) -> Result<SharedStream, AllocError>
         ensures { IfOk result (λ s. s ≡ self.now) }
     {
+        let Ok(traffic) = Arc::try_clone(&self.traffic) else {
+            return Err(AllocError);
+        };
         match Arc::try_clone(&self.stream) {
-            Ok(stream) => Ok(SharedStream { stream }),
+            Ok(stream) => Ok(SharedStream { stream, traffic }),
             Err(_) => Err(AllocError),
         }
     }
@@ -84,14 +96,18 @@ impl SharedStream {
 impl Read for SharedStream {
     fn read(&mut self, buffer: &mut [u8]) -> io::Result<usize> {
         let mut stream = self.stream();
-        stream.read(buffer)
+        let count = stream.read(buffer)?;
+        self.traffic.count_read(count);
+        Ok(count)
     }
 }
 
 impl Write for SharedStream {
     fn write(&mut self, bytes: &[u8]) -> io::Result<usize> {
         let mut stream = self.stream();
-        stream.write(bytes)
+        let count = stream.write(bytes)?;
+        self.traffic.count_written(count);
+        Ok(count)
     }
 
     fn flush(&mut self) -> io::Result<()> {
@@ -107,12 +123,16 @@ pub(crate) struct Socket {
 }
 
 impl Socket {
-    /// Nothing was read or written.
-    pub(crate) fn new(alloc: Global, stream: FreshStream) -> Result<Socket, AllocError>
+    /// Nothing was read or written. What it moves is counted in this traffic.
+    pub(crate) fn new(
+        alloc: Global,
+        stream: FreshStream,
+        traffic: &Arc<Traffic>,
+    ) -> Result<Socket, AllocError>
         ensures logs { IfOk result (λ s. logs_of s.reader s.writer ≡ no_logs) }
         ensures stream { IfOk result (λ s. s.stream ≡ stream) }
     {
-        let stream = SharedStream::new(alloc, stream)?;
+        let stream = SharedStream::new(alloc, stream, traffic)?;
         let reader = SocketReader::new(stream.share()?);
         let writer = SocketWriter::new(alloc, stream.share()?);
         Ok(Socket {

@@ -5,15 +5,17 @@ ghost use Rattle.proxy_connections.specs.WorkerConnections.{IsMostBelow, IsMostS
 use crate::client_connection::ClientConnection;
 use slab::Slab;
 
-/// A client's key, and the bytes that wait for it where it is stalled.
+/// A client that is stalled: more than 131,072 bytes wait for its socket, which has taken none of them for a second.
 #[derive(Clone, Copy, Drop)]
-pub(crate) struct Stalled {
-    pub(crate) key: usize,
-    pub(crate) bytes: u64,
+pub struct Stalled {
+    /// Its key.
+    pub key: usize,
+    /// The bytes that wait.
+    pub bytes: u64,
 }
 
-/// The key of the stalled client for which most bytes wait. `None`: none is stalled.
-pub(crate) fn most_stalled(clients: &Slab<ClientConnection>, now: u64) -> Option<usize>
+/// The stalled client for which most bytes wait. `None`: none is stalled.
+pub(crate) fn most_stalled(clients: &Slab<ClientConnection>, now: u64) -> Option<Stalled>
     ensures some { IfSome result (IsMostStalled now clients.now) }
     ensures none { result ≡ None → NoneIsStalled now clients.now }
 {
@@ -24,7 +26,7 @@ pub(crate) fn most_stalled(clients: &Slab<ClientConnection>, now: u64) -> Option
     if most.bytes == 0 {
         None
     } else {
-        Some(most.key)
+        Some(most)
     }
 }
 

@@ -11,13 +11,14 @@ use crate::client_connection::{
 use crate::host_connection::{HostConnection, HostStepped, HostTime};
 use crate::round::{HostRound, Round};
 use crate::stalled;
+use crate::stalled::Stalled;
 use crate::step_error::StepError;
 use close_behind::CloseBehind;
 use journal_budget::StepKind;
 use journal_room::{JournalRoom, MeteredTurns, OpenConnection};
 use mio::event::Event;
 use mio::{Registry, Token};
-use open_sockets::AdmittedStream;
+use open_sockets::{AdmittedStream, Traffic, WorkerTraffic};
 use proxy_config::Config;
 use proxy_exit_status::Ending;
 use proxy_histogram::Histogram;
@@ -29,7 +30,7 @@ use std::alloc::Global;
 use std::marker::Model;
 use std::mem;
 use std::net::{Net, SocketAddr};
-use std::sync::Wait;
+use std::sync::{Arc, Wait};
 use ticket_gate::Seated;
 
 /// Tokens from here on are hosts. The token of a client is its key.
@@ -71,6 +72,7 @@ pub struct WorkerConnections<'a> {
     // Bit h: parts came for host h since its last round.
     stirred: u64,
     lent: Lent,
+    traffic: WorkerTraffic,
 }
 
 impl Drop for WorkerConnections<'_> {
@@ -86,6 +88,7 @@ impl Drop for WorkerConnections<'_> {
             hosts: _,
             stirred: _,
             lent: _,
+            traffic: _,
         } = self;
     }
 }
@@ -117,14 +120,15 @@ impl<'a> Model for WorkerConnections<'a> {
 
 impl<'a> WorkerConnections<'a> {
     /// The hosts of the worker at this place, each without a link, and no client. Each client's connection is closed behind
-    /// these refused commands. Ends with `Memory` where there is
-    /// none for the hosts.
+    /// these refused commands. What its sockets move is counted in this traffic. Ends with `Memory` where there is none for
+    /// the hosts.
     pub fn new(
         alloc: Global,
         place: Place,
         config: &'a Config,
         behind: &'a CloseBehind,
         seat: Seated<'a, TalliedCore>,
+        traffic: WorkerTraffic,
     ) -> Result<WorkerConnections<'a>, Ending>
         requires { steps_of seat ≡ [] }
         ensures place { IfOk result (λ made. made.place ≡ place) }
@@ -132,7 +136,7 @@ impl<'a> WorkerConnections<'a> {
         ensures hosts { 0 < place.workers → IfOk result (λ made.
             map number_of made.hosts ≡ hosts_of place (length config.now.hosts.items)) }
     {
-        let hosts = hosts_of(alloc, place, config)?;
+        let hosts = hosts_of(alloc, place, config, &traffic.hosts)?;
         Ok(WorkerConnections {
             alloc,
             turns: MeteredTurns::new(seat),
@@ -147,6 +151,7 @@ impl<'a> WorkerConnections<'a> {
                 buffer: Vec::new(alloc),
                 durations: Histogram::new(),
             },
+            traffic,
         })
     }
 
@@ -300,6 +305,7 @@ impl<'a> WorkerConnections<'a> {
             stream,
             open_connection,
             behind: self.behind,
+            traffic: &self.traffic.clients,
         };
         match ClientConnection::open(rt, self.alloc, &mut self.turns, new) {
             Ok(client) => {
@@ -479,9 +485,8 @@ impl<'a> WorkerConnections<'a> {
         })
     }
 
-    /// The key of the client that is stalled, and for which most bytes wait of all that are. A client is stalled where more
-    /// than 131,072 bytes wait for its socket, and it has taken none of them for a second. `None`: none is.
-    pub fn most_stalled(&self, now: u64) -> Option<usize>
+    /// The client that is stalled, and for which most bytes wait of all that are. `None`: none is.
+    pub fn most_stalled(&self, now: u64) -> Option<Stalled>
         ensures some { IfSome result (IsMostStalled now self.now.clients) }
         ensures none { result ≡ None → NoneIsStalled now self.now.clients }
     {
@@ -616,7 +621,12 @@ fn is_any_connecting(hosts: &[HostConnection], now: u64) -> bool {
     hosts.iter().any(|host| host.is_connecting(now))
 }
 
-fn hosts_of(alloc: Global, place: Place, config: &Config) -> Result<Vec<HostConnection>, Ending>
+fn hosts_of(
+    alloc: Global,
+    place: Place,
+    config: &Config,
+    traffic: &Arc<Traffic>,
+) -> Result<Vec<HostConnection>, Ending>
     ensures serves { IfOk result (λ hosts.
         ServesHosts place config.now.hosts.items hosts.items []) }
     ensures all { 0 < place.workers → IfOk result (λ hosts.
@@ -627,7 +637,7 @@ fn hosts_of(alloc: Global, place: Place, config: &Config) -> Result<Vec<HostConn
         return Ok(hosts);
     }
     for host in 0..config.hosts.len() {
-        push_host(&mut hosts, alloc, host, place, config)?;
+        push_host(&mut hosts, alloc, host, place, config, traffic)?;
     }
     Ok(hosts)
 }
@@ -638,6 +648,7 @@ fn push_host(
     host: usize,
     place: Place,
     config: &Config,
+    traffic: &Arc<Traffic>,
 ) -> Result<(), Ending>
     requires workers { 0 < place.workers }
     requires there { host < length config.now.hosts.items }
@@ -650,6 +661,10 @@ fn push_host(
     let entry = &config.hosts[host];
     let token = Token(HOSTS.saturating_add(hosts.len()));
     let reply_ms = u64::from(config.reply_ms);
-    hosts.push(HostConnection::new(alloc, host, entry.address, token, reply_ms))?;
+    let Ok(traffic) = Arc::try_clone(traffic) else {
+        return Err(Ending::Memory);
+    };
+    let connection = HostConnection::new(alloc, host, entry.address, token, reply_ms, traffic);
+    hosts.push(connection)?;
     Ok(())
 }

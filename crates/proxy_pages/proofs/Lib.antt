@@ -1,3 +1,4 @@
 mod TextLemmas
 mod AnswerLemmas
 pub mod CallerLemmas
+mod DelayLemmas

@@ -3,7 +3,7 @@ use Rattle.std.specs.Prelude.{◌≡◌, ◌⊎◌, ℕ, Bool, false, is_some, O
 use Rattle.http.specs.declared.request.Request.{Request}
 use Rattle.http.specs.Request.{head_of}
 use Rattle.http_header.specs.HeaderMap.{get}
-use Rattle.http_uri.specs.Uri.{uri_path}
+use Rattle.http_uri.specs.Uri.{uri_path, uri_query}
 use Rattle.http_server.specs.declared.response.Response.{Response}
 use Rattle.proxy_pages.specs.declared.admin.Admin.{Admin}
 use Rattle.proxy_pages.specs.declared.reply.Order.{Order}
@@ -18,7 +18,9 @@ has_origin request = is_some (get (head_of request).headers (codes "origin"))
 
 -- what is replied to a request
 abbrev pub reply_for : Request (List ℕ) → Reply
-reply_for request = reply_to (head_of request).method (uri_path (head_of request).uri) (has_origin request)
+reply_for request =
+    let head = head_of request in
+    reply_to head.method (uri_path head.uri) (uri_query head.uri) (has_origin request)
 
 -- the order that is kept: the one that was taken, else the one before
 abbrev pub order_after : Option Order → Reply → Option Order

@@ -1,4 +1,5 @@
 pub mod Answers
+pub mod Delays
 pub mod Lines
 pub mod Numbers
 pub mod Pages

@@ -8,7 +8,10 @@ use Rattle.proxy_pages.specs.declared.metric.HostNumber.{HostNumber}
 use Rattle.proxy_pages.specs.declared.metric.HostNumber.TheVariants.{Sent, Answered, Faults, Lost, Waiting, Flying, Out}
 use Rattle.proxy_pages.specs.declared.metric.JournalNumber.{JournalNumber}
 use Rattle.proxy_pages.specs.declared.metric.JournalNumber.TheVariants.{Steps, Bytes}
+use Rattle.proxy_pages.specs.declared.metric.Way.{Way}
+use Rattle.proxy_pages.specs.declared.metric.Way.TheVariants.{Read, Written}
 use Rattle.proxy_pages.specs.declared.snapshot.Look.{Look}
+use Rattle.proxy_pages.specs.declared.snapshot.Moved.{Moved}
 use Rattle.proxy_pages.specs.declared.snapshot.Snapshot.{Snapshot}
 use Rattle.proxy_pages.specs.declared.snapshot.LineHosts.{LineHosts}
 
@@ -61,6 +64,11 @@ host_number s Out h = bit (load_at s.serving h).is_out
 abbrev pub journal_number : JournalNumber → Look → ℕ
 journal_number Steps look = look.steps
 journal_number Bytes look = look.bytes
+
+-- the bytes that went this way
+abbrev pub moved_number : Way → Moved → ℕ
+moved_number Read moved = moved.read
+moved_number Written moved = moved.written
 
 -- how many lines of generations are told of one by one: none where there is a single one
 abbrev pub lines_shown : Snapshot → ℕ

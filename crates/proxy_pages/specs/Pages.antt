@@ -1,5 +1,5 @@
 -- The pages, as functions of what they tell.
-use Rattle.std.specs.Prelude.{ℕ, min, Bool, List, [], ◌∷◌, ◌++◌, codes, decimal, map, length, get_or, slice_index, if◌then◌else◌}
+use Rattle.std.specs.Prelude.{ℕ, ◌+◌, ◌-◌, ◌/◌, min, Bool, Option, Some, None, List, [], ◌∷◌, ◌++◌, codes, decimal, map, length, get_or, slice_index, if◌then◌else◌}
 use Rattle.std.specs.List.{concat, range_with_len}
 use Rattle.proxy_histogram.specs.declared.histogram.Histogram.{Histogram}
 use Rattle.proxy_histogram.specs.declared.histogram.TheConstants.{BOUNDS_US}
@@ -7,20 +7,23 @@ use Rattle.proxy_histogram.specs.HostDurations.{durations_at}
 use Rattle.proxy_config.specs.declared.config.Host.{Host}
 use Rattle.proxy_stats.specs.declared.tally.Counts.{Counts}
 use Rattle.proxy_serve_core.specs.FaultLog.{faults_at, of_cause}
+use Rattle.proxy_serve_core.specs.declared.ejection_log.EjectedHost.{EjectedHost}
+use Rattle.proxy_serve_core.specs.declared.ejection_log.EjectionReason.{EjectionReason}
 use Rattle.proxy_serve_core.specs.declared.fault_log.FaultCause.{FaultCause}
 use Rattle.proxy_serve_core.specs.declared.fault_log.HostFaults.{HostFaults}
 use Rattle.proxy_serve_core.specs.declared.refused_sockets.RefusedSockets.{RefusedSockets}
 use Rattle.proxy_pages.specs.declared.metric.Kind.{Kind}
 use Rattle.proxy_pages.specs.declared.metric.Kind.TheVariants.{Counter, Gauge, Histogram as HistogramKind}
 use Rattle.proxy_pages.specs.declared.metric.Numbers.{Numbers}
-use Rattle.proxy_pages.specs.declared.metric.Numbers.TheVariants.{Build, One, ByAnswer, ByCause, ByHost, ByHostFault, Out as ByOut, ByJournal, Durations, Cpu, ByRefusal, HostDurations}
+use Rattle.proxy_pages.specs.declared.metric.Numbers.TheVariants.{Build, One, ByAnswer, ByCause, ByHost, ByHostFault, Out as ByOut, ByJournal, Durations, Cpu, ByRefusal, HostDurations, Returns, ByPeer}
+use Rattle.proxy_pages.specs.declared.metric.Way.{Way}
 use Rattle.proxy_pages.specs.declared.metric.HostNumber.{HostNumber}
 use Rattle.proxy_pages.specs.declared.metric.HostNumber.TheVariants.{Sent, Answered, Faults, Lost, Waiting, Flying, Out}
 use Rattle.proxy_pages.specs.declared.snapshot.About.{About}
 use Rattle.proxy_pages.specs.declared.snapshot.Snapshot.{Snapshot}
 use Rattle.proxy_pages.specs.Lines.{plain_text, labelled_text, host_text, fault_text, line_text, build_text, bound_text, last_bound_text, host_bound_text, last_host_bound_text, host_sum_text, host_count_text, seconds_text}
 use Rattle.proxy_pages.specs.Table.{Row, metrics}
-use Rattle.proxy_pages.specs.Numbers.{number_of, host_number, journal_number, load_at, bit, is_out_in, lines_shown}
+use Rattle.proxy_pages.specs.Numbers.{number_of, host_number, journal_number, load_at, moved_number, bit, is_out_in, lines_shown}
 
 -- the texts for 0, 1 and so on, so many, one behind the other
 abbrev pub each : ℕ → (ℕ → List ℕ) → List ℕ
@@ -110,6 +113,26 @@ host_outs_text name host s h = host_text name host (host_number s Out h) ++ line
 abbrev pub outs_text : About → Snapshot → List ℕ → List ℕ
 outs_text about s name = each (host_count about) (λ i. host_outs_text name (host_name about i) s i)
 
+-- the word for the reason of an ejection
+abbrev pub reason_word : EjectionReason → List ℕ
+reason_word EjectionReason.Streak = codes "failures_in_a_row"
+reason_word EjectionReason.Rate = codes "share_of_failures"
+
+-- the seconds until a host may return, where it is put aside
+abbrev pub return_text : List ℕ → List ℕ → ℕ → Option EjectedHost → List ℕ
+return_text name host now None = []
+return_text name host now (Some ejected) = fault_text name host (reason_word ejected.reason) ((ejected.until - now + 999) / 1000)
+
+-- the same of each host that is
+abbrev pub returns_text : About → Snapshot → List ℕ → List ℕ
+returns_text about s name = each (host_count about) (λ i. return_text name (host_name about i) s.now (get_or s.ejected i None))
+
+-- the bytes that went this way, at sockets of clients and at links to hosts
+abbrev pub peers_text : List ℕ → Snapshot → Way → List ℕ
+peers_text name s way =
+    labelled_text name (codes "peer") (codes "clients") (moved_number way s.clients_moved)
+    ++ labelled_text name (codes "peer") (codes "hosts") (moved_number way s.hosts_moved)
+
 -- how many values were at most each bound
 abbrev pub bounds_text : List ℕ → Histogram → List ℕ
 bounds_text name h = each 18 (λ i. bound_text name (slice_index BOUNDS_US i) (slice_index h.at_most i))
@@ -160,6 +183,8 @@ numbers_by about s name ByOut = outs_text about s name
 numbers_by about s name (ByJournal number) =
     labelled_text name (codes "journal") (codes "serving") (journal_number number s.serving)
     ++ labelled_text name (codes "journal") (codes "draining") (journal_number number s.draining)
+numbers_by about s name Returns = returns_text about s name
+numbers_by about s name (ByPeer way) = peers_text name s way
 numbers_by about s name Durations = durations_text name s.durations
 numbers_by about s name Cpu = cpu_text name s.process.cpu_us
 numbers_by about s name HostDurations = host_durations_text about s name

@@ -20,6 +20,7 @@ status_of is_ready (reply.Page Ready) = if is_ready then 200 else 503
 status_of is_ready (reply.Page page) = 200
 status_of is_ready (reply.Taken order) = 200
 status_of is_ready reply.Forbidden = 403
+status_of is_ready reply.BadQuery = 400
 status_of is_ready reply.OnlyRead = 405
 status_of is_ready reply.OnlySent = 405
 status_of is_ready reply.NotFound = 404
@@ -47,9 +48,10 @@ page_text about s Live = codes "live\n"
 -- its body
 abbrev pub body_of : About → Snapshot → Reply → List ℕ
 body_of about s (reply.Page page) = page_text about s page
-body_of about s (reply.Taken Drain) = codes "it drains\n"
+body_of about s (reply.Taken (Drain after_ms)) = codes "it drains\n"
 body_of about s (reply.Taken Quit) = codes "it ends\n"
 body_of about s reply.Forbidden = codes "no order from a browser's page\n"
+body_of about s reply.BadQuery = codes "/drain takes ?after=MS, 0 to 86400000\n"
 body_of about s _ = []
 
 -- the response is this reply

@@ -3,8 +3,9 @@ use Rattle.std.specs.Prelude.{ℕ, List, [], ◌∷◌, codes}
 use Rattle.proxy_pages.specs.declared.metric.Kind.{Kind}
 use Rattle.proxy_pages.specs.declared.metric.Kind.TheVariants.{Counter, Gauge, Histogram as HistogramKind}
 use Rattle.proxy_pages.specs.declared.metric.Numbers.{Numbers}
-use Rattle.proxy_pages.specs.declared.metric.Numbers.TheVariants.{Build, One, ByAnswer, ByCause, ByHost, ByHostFault, Out, ByJournal, Durations, Cpu, ByRefusal, HostDurations}
+use Rattle.proxy_pages.specs.declared.metric.Numbers.TheVariants.{Build, One, ByAnswer, ByCause, ByHost, ByHostFault, Out, ByJournal, Durations, Cpu, ByRefusal, HostDurations, Returns, ByPeer}
 use Rattle.proxy_pages.specs.declared.metric.Number.TheVariants as number
+use Rattle.proxy_pages.specs.declared.metric.Way.TheVariants as way
 use Rattle.proxy_pages.specs.declared.metric.HostNumber.TheVariants as host
 use Rattle.proxy_pages.specs.declared.metric.JournalNumber.TheVariants as journal
 use Rattle.proxy_pages.specs.declared.metric.Metric.{Metric}
@@ -41,6 +42,7 @@ metrics =
     ∷ row (codes "redproxy_host_parts_waiting") Gauge (codes "Parts of commands that wait to be sent to the host.") (ByHost host.Waiting)
     ∷ row (codes "redproxy_host_parts_flying") Gauge (codes "Parts of commands that were sent to the host and have no reply.") (ByHost host.Flying)
     ∷ row (codes "redproxy_host_out") Gauge (codes "Whether the host is put aside.") Out
+    ∷ row (codes "redproxy_host_return_seconds") Gauge (codes "Seconds until a host that is put aside may return, by the reason for which it is.") Returns
     ∷ row (codes "redproxy_ejections_total") Counter (codes "How often a host was put aside.") (One number.Ejections)
     ∷ row (codes "redproxy_ejections_withheld_total") Counter (codes "How often a host tripped and stayed, since enough others were put aside.") (One number.Kept)
     ∷ row (codes "redproxy_panic") Gauge (codes "Whether so few hosts are available that all are used.") (One number.Panic)
@@ -48,6 +50,8 @@ metrics =
     ∷ row (codes "redproxy_client_connections_closed_total") Counter (codes "Connections of clients that were closed.") (One number.Closed)
     ∷ row (codes "redproxy_idle_closed_total") Counter (codes "Connections that were ended since their clients were idle.") (One number.Idle)
     ∷ row (codes "redproxy_clients_refused_total") Counter (codes "Sockets of clients that found no room, by the cause.") ByRefusal
+    ∷ row (codes "redproxy_read_bytes_total") Counter (codes "Bytes read from sockets of clients, and from links to hosts.") (ByPeer way.Read)
+    ∷ row (codes "redproxy_written_bytes_total") Counter (codes "Bytes written to sockets of clients, and to links to hosts.") (ByPeer way.Written)
     ∷ row (codes "redproxy_generations_total") Counter (codes "Generations that were opened.") (One number.Generations)
     ∷ row (codes "redproxy_generations_draining") Gauge (codes "Generations that take in nothing more and have connections.") (One number.Draining)
     ∷ row (codes "redproxy_turns_total") Counter (codes "Turns of the core that were answered.") (One number.Turns)

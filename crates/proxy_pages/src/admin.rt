@@ -63,9 +63,10 @@ impl<'a> Admin<'a> {
     {
         match reply {
             Reply::Page(page) => self.write_page(page, response),
-            Reply::Taken(Order::Drain) => response.body.put_slice(b"it drains\n"),
+            Reply::Taken(Order::Drain { .. }) => response.body.put_slice(b"it drains\n"),
             Reply::Taken(Order::Quit) => response.body.put_slice(b"it ends\n"),
             Reply::Forbidden => response.body.put_slice(b"no order from a browser's page\n"),
+            Reply::BadQuery => response.body.put_slice(b"/drain takes ?after=MS, 0 to 86400000\n"),
             Reply::OnlyRead | Reply::OnlySent | Reply::NotFound => Ok(()),
         }
     }
@@ -100,6 +101,7 @@ fn status(reply: Reply, is_ready: bool) -> StatusCode
         Reply::Page(Page::Ready) if !is_ready => StatusCode::SERVICE_UNAVAILABLE,
         Reply::Page(_) | Reply::Taken(_) => StatusCode::OK,
         Reply::Forbidden => StatusCode::FORBIDDEN,
+        Reply::BadQuery => StatusCode::BAD_REQUEST,
         Reply::OnlyRead | Reply::OnlySent => StatusCode::METHOD_NOT_ALLOWED,
         Reply::NotFound => StatusCode::NOT_FOUND,
     }
@@ -138,7 +140,8 @@ impl<'a> Service for Admin<'a> {
         response: &mut Response,
     ) -> Result<(), AllocError> {
         let has_origin = request.headers().get(header::ORIGIN).is_some();
-        let reply = reply_to(request.method().as_str(), request.uri().path(), has_origin);
+        let uri = request.uri();
+        let reply = reply_to(request.method().as_str(), uri.path(), uri.query(), has_origin);
         self.write(reply, response)?;
         if let Reply::Taken(order) = reply {
             self.order = Some(order);

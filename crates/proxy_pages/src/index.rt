@@ -111,6 +111,8 @@ function showNumbers() {
     ['errors a second', whole(rate('redproxy_part_errors_total'))],
     ['p50, last minute', time(quantile(durations, '', 0.5))],
     ['p99, last minute', time(quantile(durations, '', 0.99))],
+    ['KiB a second from clients', whole(rate('redproxy_read_bytes_total{peer="clients"') / 1024)],
+    ['KiB a second to clients', whole(rate('redproxy_written_bytes_total{peer="clients"') / 1024)],
     ['client sockets', whole(now('redproxy_client_connections'))],
     ['generations opened', whole(now('redproxy_generations_total'))],
     ['of them draining', whole(now('redproxy_generations_draining'))],
@@ -135,6 +137,12 @@ function showLine() {
   by('caption').textContent = 'requests a second, the last five minutes since this page was opened; at most ' + whole(most);
 }
 
+// Why a host is out, and when it may return.
+function back(of) {
+  const [name] = names('redproxy_host_return_seconds{' + of);
+  return name ? ' for ' + label(name, 'cause').replaceAll('_', ' ') + ', may return in ' + whole(now(name)) + ' s' : '';
+}
+
 function showHosts() {
   by('head').textContent = by('hosts').textContent = '';
   const titles = add(by('head'), 'tr', '');
@@ -143,7 +151,7 @@ function showHosts() {
   for (const name of names('redproxy_host_out{').filter(name => !name.includes('line="'))) {
     const of = 'host="' + label(name, 'host') + '"', row = add(by('hosts'), 'tr', '');
     const lines = names('redproxy_host_out{' + of + ',').filter(now).map(line => label(line, 'line'));
-    const state = now(name) ? 'out' + (lines.length ? ' in line ' + lines.join(', ') : '') : 'in';
+    const state = now(name) ? 'out' + (lines.length ? ' in line ' + lines.join(', ') : '') + back(of) : 'in';
     const faults = names('redproxy_host_faults_total{' + of).filter(now)
       .map(fault => now(fault) + ' ' + label(fault, 'cause'));
     add(row, 'td', label(name, 'host'));

@@ -7,6 +7,7 @@
 #![tactic(auto)]
 
 mod admin;
+mod delay;
 mod hosts;
 mod index;
 mod lines;
@@ -17,5 +18,6 @@ mod reply;
 mod snapshot;
 
 pub use admin::Admin;
+pub use delay::MAX_DRAIN_AFTER_MS;
 pub use reply::Order;
-pub use snapshot::{About, LineHosts, Look, MAX_LINES_SHOWN, ProcessUse, Snapshot};
+pub use snapshot::{About, LineHosts, Look, MAX_LINES_SHOWN, Moved, ProcessUse, Snapshot};

@@ -1,8 +1,8 @@
 //! The table of metrics: their names and numbers.
 ghost use Rattle.std.specs.Prelude.{◌≡◌, ◌<◌};
-ghost use Rattle.proxy_pages.specs.Pages.{answer_word, fault_word, kind_word};
+ghost use Rattle.proxy_pages.specs.Pages.{answer_word, fault_word, kind_word, reason_word};
 
-use proxy_serve_core::FaultCause;
+use proxy_serve_core::{EjectionReason, FaultCause};
 use proxy_stats::LOCAL_KINDS;
 
 /// Prometheus's types of metrics.
@@ -58,6 +58,13 @@ pub(crate) enum JournalNumber {
     Bytes,
 }
 
+/// Which way bytes of sockets went.
+#[derive(Clone, Copy)]
+pub(crate) enum Way {
+    Read,
+    Written,
+}
+
 /// The numbers of a metric.
 #[derive(Clone, Copy)]
 pub(crate) enum Numbers {
@@ -84,6 +91,12 @@ pub(crate) enum Numbers {
 
     /// Whether each host is put aside: in some line of generations, and in each.
     Out,
+
+    /// One for each host that is put aside, with the reason.
+    Returns,
+
+    /// One for clients and one for hosts.
+    ByPeer(Way),
 
     /// One for each journal.
     ByJournal(JournalNumber),
@@ -157,8 +170,18 @@ pub(crate) fn fault_word(cause: FaultCause) -> &'static str
     }
 }
 
+/// The word for the reason of an ejection.
+pub(crate) fn reason_word(reason: EjectionReason) -> &'static str
+    ensures { result.now ≡ reason_word reason }
+{
+    match reason {
+        EjectionReason::Streak => "failures_in_a_row",
+        EjectionReason::Rate => "share_of_failures",
+    }
+}
+
 /// The number of metrics.
-pub(crate) const METRIC_COUNT: usize = 32;
+pub(crate) const METRIC_COUNT: usize = 35;
 
 /// All metrics, in the order of the page.
 pub(crate) const METRICS: [Metric; METRIC_COUNT] = [
@@ -247,6 +270,12 @@ pub(crate) const METRICS: [Metric; METRIC_COUNT] = [
         numbers: Numbers::Out,
     },
     Metric {
+        name: "redproxy_host_return_seconds",
+        kind: Kind::Gauge,
+        help: "Seconds until a host that is put aside may return, by the reason for which it is.",
+        numbers: Numbers::Returns,
+    },
+    Metric {
         name: "redproxy_ejections_total",
         kind: Kind::Counter,
         help: "How often a host was put aside.",
@@ -287,6 +316,18 @@ pub(crate) const METRICS: [Metric; METRIC_COUNT] = [
         kind: Kind::Counter,
         help: "Sockets of clients that found no room, by the cause.",
         numbers: Numbers::ByRefusal,
+    },
+    Metric {
+        name: "redproxy_read_bytes_total",
+        kind: Kind::Counter,
+        help: "Bytes read from sockets of clients, and from links to hosts.",
+        numbers: Numbers::ByPeer(Way::Read),
+    },
+    Metric {
+        name: "redproxy_written_bytes_total",
+        kind: Kind::Counter,
+        help: "Bytes written to sockets of clients, and to links to hosts.",
+        numbers: Numbers::ByPeer(Way::Written),
     },
     Metric {
         name: "redproxy_generations_total",

@@ -1,7 +1,7 @@
 //! The page of numbers, in Prometheus's text format.
 ghost use Rattle.std.specs.Prelude.{◌≡◌, ◌++◌, ◌<◌, IfOk, OnOk, map, length};
 ghost use Rattle.std.specs.List.{concat};
-ghost use Rattle.proxy_pages.specs.Pages.{head_text, metric_text, metrics_text, numbers_text, answers_text, causes_text, host_numbers_text, host_faults_text, fault_word, faults_text, lines_out_text, host_outs_text, outs_text, durations_text, bounds_text, sum_text, cpu_text, refusals_text, host_bounds_text, host_durations_text, host_histogram_text};
+ghost use Rattle.proxy_pages.specs.Pages.{head_text, metric_text, metrics_text, numbers_text, answers_text, causes_text, host_numbers_text, host_faults_text, fault_word, faults_text, lines_out_text, host_outs_text, outs_text, durations_text, bounds_text, sum_text, cpu_text, refusals_text, peers_text, return_text, returns_text, host_bounds_text, host_durations_text, host_histogram_text};
 ghost use Rattle.proxy_pages.specs.Numbers.{bit};
 ghost use Rattle.proxy_pages.specs.Table.{row_of};
 ghost use Rattle.proxy_pages.specs.Lines.{fault_text};
@@ -12,11 +12,13 @@ use crate::lines::{
     push_labelled, push_last_bound, push_last_host_bound, push_of_host, push_of_line, push_plain,
     push_seconds,
 };
-use crate::metric::{HostNumber, METRICS, Metric, Numbers, answer_word, fault_word};
+use crate::metric::{
+    HostNumber, METRICS, Metric, Numbers, Way, answer_word, fault_word, reason_word,
+};
 use crate::snapshot::{About, Snapshot};
 use limits::MAX_HOSTS;
 use proxy_histogram::{BOUNDS, BOUNDS_US, Histogram};
-use proxy_serve_core::{FaultCause, HostFaults, RefusedSockets};
+use proxy_serve_core::{EjectedHost, FaultCause, HostFaults, RefusedSockets};
 use proxy_stats::{Counts, LOCAL_KINDS};
 use std::alloc::{AllocError, Global};
 
@@ -100,6 +102,8 @@ impl Metric {
             Numbers::ByHost(number) => push_hosts(page, self.name, number, about, snapshot),
             Numbers::ByHostFault => push_faults(page, self.name, about, snapshot),
             Numbers::Out => push_outs(page, self.name, about, snapshot),
+            Numbers::Returns => push_returns(page, self.name, about, snapshot),
+            Numbers::ByPeer(way) => push_peers(page, self.name, snapshot, way),
             Numbers::ByJournal(number) => {
                 let (serving, draining) = (
                     number.of(&snapshot.serving),
@@ -206,6 +210,51 @@ fn push_outs(
         push_host_outs(page, name, about.host_name(i), snapshot, i)?;
     }
     Ok(())
+}
+
+fn push_returns(
+    page: &mut Vec<u8>,
+    name: &str,
+    about: &About<'_>,
+    snapshot: &Snapshot,
+) -> Result<(), AllocError>
+    ensures { OnOk result (page.new.items ≡ page.old.items
+        ++ returns_text about.now snapshot.now name.now) }
+{
+    for i in 0..about.host_count() {
+        push_return(page, name, about.host_name(i), snapshot.now, snapshot.ejected[i])?;
+    }
+    Ok(())
+}
+
+fn push_return(
+    page: &mut Vec<u8>,
+    name: &str,
+    host: &[u8],
+    now: u64,
+    ejected: Option<EjectedHost>,
+) -> Result<(), AllocError>
+    ensures { OnOk result (page.new.items ≡ page.old.items
+        ++ return_text name.now host.now now ejected) }
+{
+    let Some(ejected) = ejected else {
+        return Ok(());
+    };
+    let reason = reason_word(ejected.reason);
+    push_fault(page, name, host, reason, ejected.seconds_left(now))
+}
+
+fn push_peers(
+    page: &mut Vec<u8>,
+    name: &str,
+    snapshot: &Snapshot,
+    way: Way,
+) -> Result<(), AllocError>
+    ensures { OnOk result (page.new.items ≡ page.old.items
+        ++ peers_text name.now snapshot.now way) }
+{
+    push_labelled(page, name, "peer", "clients", way.of(&snapshot.clients_moved))?;
+    push_labelled(page, name, "peer", "hosts", way.of(&snapshot.hosts_moved))
 }
 
 fn push_host_outs(

@@ -1,9 +1,9 @@
 //! Reads each metric's numbers from a snapshot.
 ghost use Rattle.std.specs.Prelude.{◌≡◌, ◌<◌};
-ghost use Rattle.proxy_pages.specs.Numbers.{number_of, host_number, journal_number};
+ghost use Rattle.proxy_pages.specs.Numbers.{number_of, host_number, journal_number, moved_number};
 
-use crate::metric::{HostNumber, JournalNumber, Number};
-use crate::snapshot::{Look, Snapshot};
+use crate::metric::{HostNumber, JournalNumber, Number, Way};
+use crate::snapshot::{Look, Moved, Snapshot};
 use limits::MAX_HOSTS;
 
 impl Number {
@@ -65,6 +65,18 @@ impl JournalNumber {
         match self {
             JournalNumber::Steps => look.steps,
             JournalNumber::Bytes => look.bytes,
+        }
+    }
+}
+
+impl Way {
+    /// The bytes that went this way.
+    pub(crate) fn of(self, moved: &Moved) -> u64
+        ensures { result ≡ moved_number self moved.now }
+    {
+        match self {
+            Way::Read => moved.read,
+            Way::Written => moved.written,
         }
     }
 }

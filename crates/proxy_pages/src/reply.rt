@@ -1,12 +1,18 @@
 //! Chooses the reply to a request by its method and path.
 ghost use Rattle.std.specs.Prelude.{◌≡◌};
-ghost use Rattle.proxy_pages.specs.Routes.{order_at, page_at, reply_to, reply_to_order};
+ghost use Rattle.std.specs.Option.{option_copied};
+ghost use Rattle.proxy_pages.specs.Routes.{drain_by, page_at, reply_to, reply_to_order};
+
+use crate::delay::{Delay, delay_in};
 
 /// An operator's order.
 #[derive(Clone, Copy, Debug, PartialEq, Eq)]
 pub enum Order {
     /// Accept no new connection, answer accepted commands, and end.
-    Drain,
+    Drain {
+        /// So many milliseconds after the order; `None`: as the command line says.
+        after_ms: Option<u64>,
+    },
 
     /// End at once.
     Quit,
@@ -34,6 +40,9 @@ pub(crate) enum Reply {
     /// The order came from a web page.
     Forbidden,
 
+    /// The order has a query that isn't one.
+    BadQuery,
+
     /// Pages allow GET and HEAD alone.
     OnlyRead,
 
@@ -44,12 +53,15 @@ pub(crate) enum Reply {
     NotFound,
 }
 
-/// The reply to a request with this method and path. A request with an origin comes from a web page.
-pub(crate) fn reply_to(method: &str, path: &str, has_origin: bool) -> Reply
-    ensures { result ≡ reply_to method.now path.now has_origin }
+/// The reply to a request with this method, path and query. A request with an origin comes from a web page.
+pub(crate) fn reply_to(method: &str, path: &str, query: Option<&str>, has_origin: bool) -> Reply
+    ensures { result ≡ reply_to method.now path.now (option_copied query) has_origin }
 {
-    if let Some(order) = order_at(path) {
-        return reply_to_order(method, has_origin, order);
+    if path == "/drain" {
+        return reply_to_order(method, has_origin, drain_by(delay_in(query)));
+    }
+    if path == "/quit" {
+        return reply_to_order(method, has_origin, Reply::Taken(Order::Quit));
     }
     match page_at(path) {
         Some(page) if method == "GET" || method == "HEAD" => Reply::Page(page),
@@ -58,8 +70,18 @@ pub(crate) fn reply_to(method: &str, path: &str, has_origin: bool) -> Reply
     }
 }
 
-fn reply_to_order(method: &str, has_origin: bool, order: Order) -> Reply
-    ensures { result ≡ reply_to_order method.now has_origin order }
+fn drain_by(delay: Delay) -> Reply
+    ensures { result ≡ drain_by delay }
+{
+    match delay {
+        Delay::Unsaid => Reply::Taken(Order::Drain { after_ms: None }),
+        Delay::Ms(ms) => Reply::Taken(Order::Drain { after_ms: Some(ms) }),
+        Delay::Bad => Reply::BadQuery,
+    }
+}
+
+fn reply_to_order(method: &str, has_origin: bool, taken: Reply) -> Reply
+    ensures { result ≡ reply_to_order method.now has_origin taken }
 {
     if method != "POST" {
         return Reply::OnlySent;
@@ -67,19 +89,7 @@ fn reply_to_order(method: &str, has_origin: bool, order: Order) -> Reply
     if has_origin {
         return Reply::Forbidden;
     }
-    Reply::Taken(order)
-}
-
-fn order_at(path: &str) -> Option<Order>
-    ensures { result ≡ order_at path.now }
-{
-    if path == "/drain" {
-        return Some(Order::Drain);
-    }
-    if path == "/quit" {
-        return Some(Order::Quit);
-    }
-    None
+    taken
 }
 
 fn page_at(path: &str) -> Option<Page>

@@ -5,7 +5,7 @@ ghost use Rattle.proxy_pages.specs.Numbers.{is_out_in, lines_shown};
 use limits::MAX_HOSTS;
 use proxy_config::Host;
 use proxy_histogram::Histogram;
-use proxy_serve_core::{HostFaults, RefusedSockets};
+use proxy_serve_core::{EjectedHost, HostFaults, RefusedSockets};
 use proxy_stats::{Counts, Load};
 
 /// The most lines of generations that are shown one by one.
@@ -79,6 +79,24 @@ impl LineHosts {
     };
 }
 
+/// The bytes that sockets have moved.
+#[derive(Clone, Copy, Debug, PartialEq, Eq)]
+pub struct Moved {
+    /// Those read from them.
+    pub read: u64,
+
+    /// Those written to them.
+    pub written: u64,
+}
+
+impl Moved {
+    /// None.
+    pub const NONE: Moved = Moved {
+        read: 0,
+        written: 0,
+    };
+}
+
 /// What the process uses, as the system tells it; 0 where it doesn't.
 #[derive(Clone, Copy, Debug, PartialEq, Eq)]
 pub struct ProcessUse {
@@ -137,6 +155,18 @@ pub struct Snapshot {
 
     /// The sockets of clients that found no room.
     pub refused: RefusedSockets,
+
+    /// The bytes of the sockets of clients.
+    pub clients_moved: Moved,
+
+    /// The bytes of the links to hosts.
+    pub hosts_moved: Moved,
+
+    /// The moment of this snapshot, in milliseconds.
+    pub now: u64,
+
+    /// Each host that a line has put aside, by its number; of several lines the one that has it back first.
+    pub ejected: [Option<EjectedHost>; MAX_HOSTS],
 
     /// The faults of each host's links, by its number, over all generations.
     pub faults: [HostFaults; MAX_HOSTS],

@@ -9,7 +9,7 @@ use proxy_config::Config;
 use proxy_core::Handover;
 use proxy_exit_status::Ending;
 use proxy_generations::{At, Look, Marks, Phase};
-use proxy_serve_core::Refusals;
+use proxy_serve_core::{EjectedHost, EjectionReason, Refusals};
 use proxy_server::{Inherited, Level, Log, Stop, now};
 use proxy_stats::{Sight, TalliedCore};
 use std::marker::Model;
@@ -255,36 +255,54 @@ impl<'a> SweepThread<'a> {
             if host >= hosts {
                 return;
             }
-            let is_out = sight.is_out(host);
-            if ejections.is_news(number, host, is_out) && line.note_out(rt, host, is_out) {
-                if is_out {
-                    self.log_ejected(rt, entry.address, sight, host);
-                } else {
-                    log_back(rt, line.log(), entry.address);
+            let seen = self.ejected_host(sight, host);
+            if ejections.note(number, host, seen) && line.note_out(rt, host, seen.is_some()) {
+                match seen {
+                    Some(ejected) => self.log_ejected(rt, entry.address, sight, ejected),
+                    None => log_back(rt, line.log(), entry.address),
                 }
             }
         }
     }
 
     // A sweep ejects by rates, all else by streaks.
-    fn log_ejected<R: Eprint>(&self, rt: &R, address: SocketAddr, sight: &Handover, host: usize)
+    fn ejected_host(&self, sight: &Handover, host: usize) -> Option<EjectedHost>
         requires { host < sight.now.detection.rules.hosts }
     {
-        let tag = self.generation.line().log().tag(Level::Warning);
-        let ms = sight.ejection_ms(host);
-        let is_by_rate = match self.ejected_at {
-            Some(moment) => sight.ejected_at(host) >= moment,
-            None => false,
+        if !sight.is_out(host) {
+            return None;
+        }
+        let at = sight.ejected_at(host);
+        let reason = match self.ejected_at {
+            Some(moment) if at >= moment => EjectionReason::Rate,
+            Some(_) | None => EjectionReason::Streak,
         };
-        let _ = if is_by_rate {
-            eprintln!(rt;
+        Some(EjectedHost {
+            reason,
+            at,
+            until: at.saturating_add(sight.ejection_ms(host)),
+        })
+    }
+
+    fn log_ejected<R: Eprint>(
+        &self,
+        rt: &R,
+        address: SocketAddr,
+        sight: &Handover,
+        ejected: EjectedHost,
+    ) {
+        let tag = self.generation.line().log().tag(Level::Warning);
+        let ms = ejected.until.saturating_sub(ejected.at);
+        let _ = match ejected.reason {
+            EjectionReason::Rate => eprintln!(rt;
                 "{tag}redproxy: host {address} is put aside for {ms} ms, for its share of failures"
-            )
-        } else {
-            let many = sight.rules().settings.consecutive;
-            eprintln!(rt;
-                "{tag}redproxy: host {address} is put aside for {ms} ms, after {many} failures in a row"
-            )
+            ),
+            EjectionReason::Streak => {
+                let many = sight.rules().settings.consecutive;
+                eprintln!(rt;
+                    "{tag}redproxy: host {address} is put aside for {ms} ms, after {many} failures in a row"
+                )
+            }
         };
     }
 }

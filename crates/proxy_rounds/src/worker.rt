@@ -137,10 +137,11 @@ impl<'a> WorkerSetup<'a> {
             behind,
             marks: _,
         } = context;
+        let traffic = generation.line().traffic(place.index)?;
         Ok(Worker {
             poll,
             generation,
-            connections: WorkerConnections::new(alloc, place, config, behind, seat)?,
+            connections: WorkerConnections::new(alloc, place, config, behind, seat, traffic)?,
             reply_ms: config.reply_ms,
             opening: Refusals::new(),
             now: Moment::FIRST,
@@ -153,6 +154,7 @@ impl<'a> WorkerSetup<'a> {
             is_held_back: false,
             mode: Mode::new(),
             reported_at: 0,
+            bidder: generation.line().new_bidder(),
         })
     }
 }
@@ -203,6 +205,8 @@ struct Worker<'a> {
     is_held_back: bool,
     mode: Mode,
     reported_at: u64,
+    // With which it bids for its stalled clients.
+    bidder: u64,
 }
 
 impl Drop for Worker<'_> {
@@ -223,6 +227,7 @@ impl Drop for Worker<'_> {
             is_held_back: _,
             mode: _,
             reported_at: _,
+            bidder: _,
         } = self;
     }
 }

@@ -139,7 +139,7 @@ impl Acceptor {
         self.accept_all(rt, server, moment)?;
         match self.signals.asked(moment) {
             Asked::Nothing => server.follow_plan(rt, moment),
-            Asked::Drain => server.order_drain(rt, moment),
+            Asked::Drain => server.order_drain(rt, moment, None),
             Asked::Quit => server.quit(),
         }
         if server.is_draining() {

@@ -1,2 +1,3 @@
 mod IdlenessLemmas
 mod KeySetLemmas
+mod StalledBidLemmas

@@ -8,3 +8,4 @@ pub mod KeyRange
 pub mod Idleness
 pub mod RefusedSockets
 pub mod DrainPlan
+pub mod StalledBids

@@ -1,4 +1,4 @@
-ghost use Rattle.std.specs.Prelude.{◌≡◌, ◌≢◌, ◌↔◌, ◌∷◌, ◌<◌, ◌-◌, ◌^◌, [], List, IsTrue};
+ghost use Rattle.std.specs.Prelude.{◌≡◌, ◌≢◌, ◌↔◌, ◌∷◌, ◌<◌, ◌+◌, ◌-◌, ◌^◌, [], List, IsTrue};
 ghost use Rattle.proxy_serve_core.specs.declared.drain_plan.DrainOrder.{DrainOrder as Order};
 ghost use Rattle.proxy_serve_core.specs.DrainPlan.{IsDueBy, Plans};
 
@@ -25,15 +25,23 @@ impl DrainPlan {
         DrainPlan { at: None }
     }
 
-    /// Takes in an order. The earliest moment that was ordered counts.
-    pub fn order(&mut self, order: DrainOrder)
-        ensures { (orders : List Order) → Plans orders self.old → Plans (order ∷ orders) self.new }
+    /// Takes in an order. The earliest moment that was ordered counts. True: the drain begins earlier by this order.
+    pub fn order(&mut self, order: DrainOrder) -> bool
+        ensures plans { (orders : List Order) → Plans orders self.old
+            → Plans (order ∷ orders) self.new }
+        ensures earlier { (orders : List Order) → Plans orders self.old
+            → order.now + order.after_ms < 2 ^ 64 - 1
+            → IsTrue result ↔ ¬ (IsDueBy (order.now + order.after_ms) orders) }
     {
         let at = order.now.saturating_add(order.after_ms);
-        match self.at {
-            Some(before) => self.at = Some(before.min(at)),
-            None => self.at = Some(at),
+        let is_earlier = match self.at {
+            Some(before) => at < before,
+            None => true,
+        };
+        if is_earlier {
+            self.at = Some(at);
         }
+        is_earlier
     }
 
     /// Whether a drain was ordered.

@@ -1,15 +1,56 @@
-ghost use Rattle.std.specs.Prelude.{◌≡◌, ◌↔◌, IsTrue, max, replicate, false, true, IfOk};
-ghost use Rattle.proxy_serve_core.specs.EjectionLog.{IsNews, told};
+ghost use Rattle.std.specs.Prelude.{◌≡◌, ◌↔◌, ◌+◌, ◌-◌, ◌/◌, IsTrue, None, replicate, slice_index_or, IfOk};
+ghost use Rattle.proxy_serve_core.specs.EjectionLog.{IsNews, first_of, merged, noted};
 
 use std::alloc::{AllocError, Global};
 use std::marker::Model;
+
+/// Why a host was put aside.
+#[derive(Clone, Copy, Debug, PartialEq, Eq)]
+pub enum EjectionReason {
+    /// So many failures in a row.
+    Streak,
+    /// Its share of failures, at a sweep.
+    Rate,
+}
+
+/// A host that is put aside. Moments are in milliseconds.
+#[derive(Clone, Copy, Debug, PartialEq, Eq)]
+pub struct EjectedHost {
+    /// Why.
+    pub reason: EjectionReason,
+    /// Since when.
+    pub at: u64,
+    /// At the first sweep from then on it returns.
+    pub until: u64,
+}
+
+impl EjectedHost {
+    /// The seconds until it may return, rounded up.
+    pub fn seconds_left(&self, now: u64) -> u64
+        ensures { result ≡ (self.now.until - now + 999) / 1000 }
+    {
+        let ms = self.until.saturating_sub(now);
+        ms.div_ceil(1_000)
+    }
+
+    /// Of two hosts that are put aside the one that may return first; the one, where only one is.
+    pub fn first(one: Option<EjectedHost>, other: Option<EjectedHost>) -> Option<EjectedHost>
+        ensures { result ≡ first_of one other }
+    {
+        match (one, other) {
+            (Some(one), Some(other)) if other.until < one.until => Some(other),
+            (Some(one), _) => Some(one),
+            (None, other) => other,
+        }
+    }
+}
 
 /// What the log says of each host, over all generations. Only the newest one that looked changes it, so that
 /// ejections and returns of a host take turns.
 #[derive(Drop)]
 pub struct EjectionLog {
     newest: u64,
-    are_out: Vec<bool>,
+    hosts: Vec<Option<EjectedHost>>,
 }
 
 impl Model for EjectionLog {
@@ -17,36 +58,54 @@ impl Model for EjectionLog {
 
     ghost Value = { EjectionLogState };
 
-    ghost view = { λ l. record { newest = l.newest; are_out = l.are_out.items } };
+    ghost view = { λ l. record { newest = l.newest; hosts = l.hosts.items } };
 }
 
 impl EjectionLog {
     /// No host is ejected. Refused only where there is no memory.
     pub fn new(alloc: Global, hosts: usize) -> Result<EjectionLog, AllocError>
-        ensures { IfOk result (λ l. l ≡ record { newest = 0; are_out = replicate hosts false }) }
+        ensures { IfOk result (λ l. l ≡ record { newest = 0; hosts = replicate hosts None }) }
     {
         Ok(EjectionLog {
             newest: 0,
-            are_out: vec![in alloc; false; hosts]?,
+            hosts: vec![in alloc; None; hosts]?,
         })
     }
 
-    /// Takes in whether a generation has the host ejected. True: that is news to be logged. False: the log has it, a
-    /// newer generation has looked, or there is no such host.
-    pub fn is_news(&mut self, number: u64, host: usize, is_out: bool) -> bool
-        ensures news { IsTrue result ↔ IsNews self.old number host is_out }
-        ensures told { result ≡ true → self.new ≡ told self.old number host is_out }
-        ensures same { result ≡ false → self.new.are_out ≡ self.old.are_out }
-        ensures newest { self.new.newest ≡ max self.old.newest number }
+    /// Takes in whether a generation has the host ejected, and why; the first reason of an ejection stays. True: that it is, or
+    /// that it isn't, is news to be logged. False: the log has it, a newer generation has looked, or there is no such host.
+    pub fn note(&mut self, number: u64, host: usize, seen: Option<EjectedHost>) -> bool
+        ensures news { IsTrue result ↔ IsNews self.old number host seen }
+        ensures noted { self.new ≡ noted self.old number host seen }
     {
         if number < self.newest {
             return false;
         }
         self.newest = number;
-        if host >= self.are_out.len() || self.are_out[host] == is_out {
+        let Some(kept) = self.hosts.get_mut(host) else {
             return false;
+        };
+        let is_news = kept.is_some() != seen.is_some();
+        *kept = merged(*kept, seen);
+        is_news
+    }
+
+    /// The host as the log has it. `None`: it isn't ejected, or there is no such host.
+    pub fn ejected(&self, host: usize) -> Option<EjectedHost>
+        ensures { result ≡ slice_index_or self.now.hosts host None }
+    {
+        match self.hosts.get(host) {
+            Some(ejected) => *ejected,
+            None => None,
         }
-        self.are_out[host] = is_out;
-        true
+    }
+}
+
+fn merged(kept: Option<EjectedHost>, seen: Option<EjectedHost>) -> Option<EjectedHost>
+    ensures { result ≡ merged kept seen }
+{
+    match (kept, seen) {
+        (Some(kept), Some(seen)) if kept.at == seen.at => Some(kept),
+        _ => seen,
     }
 }

@@ -13,9 +13,10 @@ mod refusals;
 mod refused_sockets;
 mod round_robin;
 mod signals;
+mod stalled_bids;
 
 pub use drain_plan::{DrainOrder, DrainPlan};
-pub use ejection_log::EjectionLog;
+pub use ejection_log::{EjectedHost, EjectionLog, EjectionReason};
 pub use fault_log::{CauseFaults, FaultCause, FaultLog, HostFaults, LinkLoss};
 pub use idleness::{ClientSight, Idleness};
 pub use key_range::KeyRange;
@@ -24,3 +25,4 @@ pub use refusals::Refusals;
 pub use refused_sockets::{RefusedSockets, SocketRefusal};
 pub use round_robin::RoundRobin;
 pub use signals::{Asked, TermEffect, asked_by_signals, effect_of_term};
+pub use stalled_bids::{BID_STANDS_MS, BID_WAITS_MS, StalledBid, StalledBids};

@@ -7,18 +7,19 @@ use crate::process::Process;
 use crate::stats::Stats;
 use crate::stop::Stop;
 use byte_sum::ByteSum;
-use limits::{MAX_FAILURES, MAX_GENERATIONS};
+use limits::{MAX_FAILURES, MAX_GENERATIONS, MAX_HOSTS};
 use mio::Waker;
-use open_sockets::AdmittedStream;
+use open_sockets::{AdmittedStream, Traffic, WorkerTraffic};
 use proxy_config::Config;
 use proxy_core::Handover;
 use proxy_generations::{At, Due, Generations, Phase};
 use proxy_histogram::Histogram;
-use proxy_pages::{MAX_LINES_SHOWN, Snapshot};
-use proxy_serve_core::{EjectionLog, FaultCause, LinkLoss};
+use proxy_pages::{MAX_LINES_SHOWN, Moved, Snapshot};
+use proxy_serve_core::{EjectedHost, EjectionLog, FaultCause, LinkLoss};
 use proxy_stats::{Counts, Sight};
 use std::alloc::{AllocError, Global};
 use std::collections::VecDeque;
+use std::sync::atomic::Ordering;
 use std::sync::{Arc, Mutex, MutexGuard, Wait};
 
 /// What a generation starts from.
@@ -36,6 +37,7 @@ struct AcceptQueue<C: Drop> {
     sockets: Mutex<VecDeque<AdmittedStream>>,
     carried: Mutex<VecDeque<C>>,
     waker: Mutex<Option<Waker>>,
+    traffic: WorkerTraffic,
 }
 
 /// A line of generations: each is a whole, with a journal, workers and links of its own. `C` is a socket that goes over from one
@@ -77,6 +79,7 @@ impl<C: Drop> Line<C> {
                 sockets: Mutex::new(VecDeque::new(alloc)),
                 carried: Mutex::new(VecDeque::new(alloc)),
                 waker: Mutex::new(None),
+                traffic: WorkerTraffic::new(alloc)?,
             })?;
         }
         Ok(Line {
@@ -120,6 +123,25 @@ impl<C: Drop> Line<C> {
     /// As [`OpenSockets::has_too_much_waiting`](open_sockets::OpenSockets::has_too_much_waiting).
     pub fn has_too_much_waiting(&self) -> bool {
         self.process.sockets.has_too_much_waiting()
+    }
+
+    /// A number that no other worker bids with.
+    pub fn new_bidder(&self) -> u64 {
+        self.process.bidders.fetch_add(1, Ordering::Relaxed)
+    }
+
+    /// As [`StalledBids::bid`]. Where there is no memory for its bid, the bidder closes its client.
+    pub fn bid_stalled<R: Wait>(&self, rt: &R, bidder: u64, bytes: u64, now: u64) -> bool {
+        let bid = self.process.stalled.lock(rt).bid(bidder, bytes, now);
+        bid.unwrap_or(bytes > 0)
+    }
+
+    /// What the sockets of the worker of this index move. Refused for want of memory.
+    pub fn traffic(&self, index: usize) -> Result<WorkerTraffic, AllocError> {
+        match self.queues.get(index) {
+            Some(queue) => queue.traffic.share(),
+            None => Err(AllocError),
+        }
     }
 
     /// Milliseconds until an idle client is closed; 0: never.
@@ -355,8 +377,24 @@ impl<C: Drop> Line<C> {
         self.stats.lock(rt).counts()
     }
 
+    fn add_ejected<R: Wait>(&self, rt: &R, all: &mut Snapshot) {
+        let ejections = self.ejections.lock(rt);
+        for host in 0..MAX_HOSTS {
+            all.ejected[host] = EjectedHost::first(all.ejected[host], ejections.ejected(host));
+        }
+    }
+
+    fn add_traffic(&self, all: &mut Snapshot) {
+        for queue in self.queues.iter() {
+            add_moved(&mut all.clients_moved, &queue.traffic.clients);
+            add_moved(&mut all.hosts_moved, &queue.traffic.hosts);
+        }
+    }
+
     /// Adds its numbers to those of the lines before.
     pub(crate) fn add_to<R: Wait>(&self, rt: &R, number: usize, all: &mut Snapshot) {
+        self.add_ejected(rt, all);
+        self.add_traffic(all);
         // (nobody takes these two locks the other way round)
         let generations = self.generations.lock(rt);
         let newest = generations.newest();
@@ -376,4 +414,9 @@ impl<C: Drop> Line<C> {
         all.durations = all.durations.plus(stats.durations());
         all.is_ready = all.is_ready && newest.is_some();
     }
+}
+
+fn add_moved(moved: &mut Moved, traffic: &Traffic) {
+    moved.read = moved.read.saturating_add(traffic.read());
+    moved.written = moved.written.saturating_add(traffic.written());
 }

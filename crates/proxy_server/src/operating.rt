@@ -16,13 +16,13 @@ impl<C: Drop> Operated for Server<C> {
         now(rt)
     }
 
-    fn snapshot<R: Wait>(&self, rt: &R) -> Snapshot {
-        Server::snapshot(self, rt)
+    fn snapshot<R: Wait>(&self, rt: &R, moment: u64) -> Snapshot {
+        Server::snapshot(self, rt, moment)
     }
 
     fn obey<R: Wait + Eprint>(&self, rt: &R, order: Order, moment: u64) {
         match order {
-            Order::Drain => self.order_drain(rt, moment),
+            Order::Drain { after_ms } => self.order_drain(rt, moment, after_ms),
             Order::Quit => self.quit(),
         }
     }

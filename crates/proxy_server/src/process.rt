@@ -7,8 +7,9 @@ use byte_sum::ByteSum;
 use mio::Waker;
 use open_sockets::OpenSockets;
 use proxy_histogram::HostDurations;
-use proxy_serve_core::{DrainPlan, FaultLog, RefusedSockets};
+use proxy_serve_core::{DrainPlan, FaultLog, RefusedSockets, StalledBids};
 use std::alloc::Global;
+use std::sync::atomic::AtomicU64;
 use std::sync::{Arc, Mutex, Wait};
 
 /// The lines of a server, which clients it closes, and its end.
@@ -37,6 +38,9 @@ pub(crate) struct Process {
     pub(crate) outs: Mutex<HostOuts>,
     // Of all journals.
     pub(crate) unfinished: Arc<ByteSum>,
+    // Those of all workers, of whichever line and generation.
+    pub(crate) stalled: Mutex<StalledBids>,
+    pub(crate) bidders: AtomicU64,
 }
 
 impl Drop for Process {
@@ -52,6 +56,8 @@ impl Drop for Process {
             host_durations: _,
             outs: _,
             unfinished: _,
+            stalled: _,
+            bidders: _,
         } = self;
     }
 }
@@ -75,6 +81,8 @@ impl Process {
             host_durations: Mutex::new(HostDurations::new()),
             outs: Mutex::new(HostOuts::new()),
             unfinished: Arc::new(alloc, ByteSum::new())?,
+            stalled: Mutex::new(StalledBids::new(alloc)),
+            bidders: AtomicU64::new(0),
         })
     }
 

@@ -5,12 +5,12 @@ use crate::process::{Extent, Process};
 use crate::stop::Stop;
 use crossbeam_utils::CachePadded;
 use fresh_stream::FreshStream;
-use limits::MAX_SOCKETS;
+use limits::{MAX_HOSTS, MAX_SOCKETS};
 use mio::Waker;
 use open_sockets::{AdmittedStream, NotAdmitted};
 use proxy_config::Config;
 use proxy_histogram::Histogram;
-use proxy_pages::{LineHosts, MAX_LINES_SHOWN, ProcessUse, Snapshot};
+use proxy_pages::{LineHosts, MAX_LINES_SHOWN, Moved, ProcessUse, Snapshot};
 use proxy_serve_core::{DrainOrder, SocketRefusal};
 use proxy_stats::Counts;
 use std::alloc::Global;
@@ -110,17 +110,13 @@ impl<C: Drop> Server<C> {
         };
     }
 
-    /// Orders a drain, which begins after the command line's delay. Until then `/ready` is 503, and clients are served. A later
-    /// order changes nothing.
-    pub fn order_drain<R: Wait + Eprint>(&self, rt: &R, now: u64) {
-        let after_ms = self.process.extent.drain_after_ms;
-        let was_ordered = {
-            let mut plan = self.process.drain_plan.lock(rt);
-            let was_ordered = plan.is_ordered();
-            plan.order(DrainOrder { now, after_ms });
-            was_ordered
-        };
-        if after_ms > 0 && !was_ordered {
+    /// Orders a drain, which begins so many milliseconds later; `None`: after the command line's delay. Until then `/ready` is
+    /// 503, and clients are served. Of several orders the one that is due first counts.
+    pub fn order_drain<R: Wait + Eprint>(&self, rt: &R, now: u64, after_ms: Option<u64>) {
+        let after_ms = after_ms.unwrap_or(self.process.extent.drain_after_ms);
+        let order = DrainOrder { now, after_ms };
+        let is_earlier = self.process.drain_plan.lock(rt).order(order);
+        if after_ms > 0 && is_earlier && !self.is_draining() {
             let tag = self.process.log.tag(Level::Notice);
             let _ = eprintln!(rt; "{tag}redproxy: draining in {after_ms} ms");
         }
@@ -186,8 +182,8 @@ impl<C: Drop> Server<C> {
         counts
     }
 
-    /// The numbers of the server now.
-    pub fn snapshot<R: Wait>(&self, rt: &R) -> Snapshot {
+    /// The numbers of the server at this moment.
+    pub fn snapshot<R: Wait>(&self, rt: &R, now: u64) -> Snapshot {
         let is_ordered = self.process.drain_plan.lock(rt).is_ordered();
         let is_ending = is_ordered || self.is_draining() || !self.runs();
         let mut all = Snapshot {
@@ -203,6 +199,10 @@ impl<C: Drop> Server<C> {
             refused: *self.process.refused.lock(rt),
             faults: *self.process.faults.lock(rt).hosts(),
             host_durations: *self.process.host_durations.lock(rt).hosts(),
+            clients_moved: Moved::NONE,
+            hosts_moved: Moved::NONE,
+            now,
+            ejected: [None; MAX_HOSTS],
             lines: self.lines.len(),
             line_hosts: [LineHosts::NONE; MAX_LINES_SHOWN],
             durations: Histogram::new(),

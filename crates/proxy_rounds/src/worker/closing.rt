@@ -2,6 +2,7 @@
 
 use super::Worker;
 use limits::MAX_SOCKETS;
+use proxy_connections::Stalled;
 use proxy_server::Level;
 use std::sync::Wait;
 
@@ -50,8 +51,8 @@ impl Worker<'_> {
         }
     }
 
-    // While too many bytes wait for all sockets together, closes its stalled clients, those for which most wait first.
-    pub(super) fn close_stalled<R: Eprint>(&mut self, rt: &R) {
+    // While too many bytes wait for all sockets together, closes its stalled clients, as long as for no other worker's more wait.
+    pub(super) fn close_stalled<R: Wait + Eprint>(&mut self, rt: &R) {
         let line = self.generation.line();
         if !line.has_too_much_waiting() {
             return;
@@ -59,7 +60,7 @@ impl Worker<'_> {
         let waiting = line.waiting();
         let mut count = 0u32;
         for _ in 0..self.connections.capacity() {
-            let Some(key) = self.find_stalled() else {
+            let Some(key) = self.find_stalled(rt) else {
                 break;
             };
             self.connections.break_off(key);
@@ -74,12 +75,17 @@ impl Worker<'_> {
     }
 
     // Its client to be closed next, while too many bytes wait.
-    fn find_stalled(&self) -> Option<usize> {
-        if self.generation.line().has_too_much_waiting() {
-            self.connections.most_stalled(self.now.ms)
-        } else {
-            None
+    fn find_stalled<R: Wait>(&self, rt: &R) -> Option<usize> {
+        let line = self.generation.line();
+        if !line.has_too_much_waiting() {
+            return None;
         }
+        let now = self.now.ms;
+        let Some(Stalled { key, bytes }) = self.connections.most_stalled(now) else {
+            line.bid_stalled(rt, self.bidder, 0, now);
+            return None;
+        };
+        line.bid_stalled(rt, self.bidder, bytes, now).then_some(key)
     }
 
     // Closes the sockets in the queue: once the server ends no generation takes them.

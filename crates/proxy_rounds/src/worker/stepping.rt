@@ -89,7 +89,7 @@ impl Worker<'_> {
 
     // Makes clients ready to which replies came, and all clients each `ALL_CLIENTS_MS`: some things come by the clock alone, and no
     // client may depend on a notice.
-    fn find_ready<R: Eprint>(&mut self, rt: &R) {
+    fn find_ready<R: Wait + Eprint>(&mut self, rt: &R) {
         self.connections.hear(self.generation.notices());
         if self.now.ms.saturating_sub(self.looked_at) >= ALL_CLIENTS_MS {
             self.looked_at = self.now.ms;

@@ -1,6 +1,6 @@
 use Rattle.std.proofs.Common.{◌≡◌, refl, sym, ap, subst, ◌∙◌, inl, inr, rules}
 use Rattle.http.specs.Request.{head_of}
-use Rattle.http_uri.specs.Uri.{uri_path}
+use Rattle.http_uri.specs.Uri.{uri_path, uri_query}
 use Rattle.proxy_pages.specs.Answers.{has_origin, order_after, reply_for}
 use Rattle.proxy_pages.specs.Replies.{IsReply}
 use Rattle.proxy_pages.specs.Routes.{reply_to}
@@ -14,12 +14,13 @@ returns-in-Taken-clause-ok c =
     let head = head_of q in
     let method = c.as_str.ensures.value ∙ c.method.ensures in
     let path = c.path.ensures.value ∙ ap uri_path c.uri.ensures in
+    let query = c.query.ensures.value ∙ ap uri_query c.uri.ensures in
     let origin : c.is_some-has_origin.result ≡ has_origin q = let a = c.is_some-has_origin.ensures in let b = c.get.ensures.value in let d = c.headers.ensures in search rules in
-    let reply : c.reply_to-reply.result ≡ reply_for q = c.reply_to-reply.ensures ∙ (λ i. reply_to (method i) (path i) (origin i)) in
+    let reply : c.reply_to-reply.result ≡ reply_for q = c.reply_to-reply.ensures ∙ (λ i. reply_to (method i) (path i) (query i) (origin i)) in
     record {
       reply = subst (λ (r : Reply). IsReply c.args.self.now.about.now c.args.self.now.snapshot.now r c.write.new.response) reply c.in_ok-write.ensures;
       order = ap (order_after c.args.self.now.order) (sym c.in-Taken.is ∙ reply);
-      only_posts = inr (taken_by_post head.method (uri_path head.uri) (has_origin q) c.in-Taken.order (sym reply ∙ c.in-Taken.is));
+      only_posts = inr (taken_by_post head.method (uri_path head.uri) (uri_query head.uri) (has_origin q) c.in-Taken.order (sym reply ∙ c.in-Taken.is));
       about = refl;
       snapshot = refl;
     }
@@ -30,8 +31,9 @@ returns-in_default c =
     let head = head_of q in
     let method = c.as_str.ensures.value ∙ c.method.ensures in
     let path = c.path.ensures.value ∙ ap uri_path c.uri.ensures in
+    let query = c.query.ensures.value ∙ ap uri_query c.uri.ensures in
     let origin : c.is_some-has_origin.result ≡ has_origin q = let a = c.is_some-has_origin.ensures in let b = c.get.ensures.value in let d = c.headers.ensures in search rules in
-    let reply : c.reply_to-reply.result ≡ reply_for q = c.reply_to-reply.ensures ∙ (λ i. reply_to (method i) (path i) (origin i)) in
+    let reply : c.reply_to-reply.result ≡ reply_for q = c.reply_to-reply.ensures ∙ (λ i. reply_to (method i) (path i) (query i) (origin i)) in
     record {
       ok = record {
         reply = subst (λ (r : Reply). IsReply c.args.self.now.about.now c.args.self.now.snapshot.now r c.write.new.response) reply c.in_ok-write.ensures;

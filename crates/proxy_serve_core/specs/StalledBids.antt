@@ -1,0 +1,41 @@
+-- Which worker is to close a stalled client.
+use Rattle.std.specs.Prelude.{◌≡◌, ◌≤◌, ◌<◌, ◌+◌, ◌-◌, ◌==◌, ◌&&◌, ◌++◌, if◌then◌else◌, nat_lt, not, ℕ, Bool, List, [], ◌∷◌, filter}
+use Rattle.std.specs.List.{All}
+use Rattle.proxy_serve_core.specs.declared.stalled_bids.StalledBid.{StalledBid}
+use Rattle.proxy_serve_core.specs.declared.stalled_bids.TheConstants.{BID_STANDS_MS, BID_WAITS_MS}
+
+-- a bid stands at this moment
+abbrev pub stands : ℕ → StalledBid → Bool
+stands now bid = nat_lt (now - bid.at) BID_STANDS_MS
+
+-- a bid of others that stands
+abbrev pub is_standing_beside : ℕ → ℕ → StalledBid → Bool
+is_standing_beside bidder now bid = stands now bid && not (bid.bidder == bidder)
+
+-- the bids of others that stand
+abbrev pub standing_beside : ℕ → ℕ → List StalledBid → List StalledBid
+standing_beside bidder now bids = filter (is_standing_beside bidder now) bids
+
+-- since when the bidder's bid stands: the moment of the first of its bids without a break; now, if it has none
+abbrev pub since_of : ℕ → ℕ → List StalledBid → ℕ
+since_of bidder now [] = now
+since_of bidder now (bid ∷ bids) =
+    if bid.bidder == bidder && nat_lt 0 bid.bytes && stands now bid then bid.since else since_of bidder now bids
+
+-- the bid that a bidder makes
+abbrev pub own_bid : ℕ → ℕ → ℕ → List StalledBid → StalledBid
+own_bid bidder bytes now bids = record { bidder = bidder; bytes = bytes; since = since_of bidder now bids; at = now }
+
+-- the bids that stand once it is made
+abbrev pub with_bid : ℕ → ℕ → ℕ → List StalledBid → List StalledBid
+with_bid bidder bytes now bids = standing_beside bidder now bids ++ own_bid bidder bytes now bids ∷ []
+
+-- a bid is of at most this many bytes
+abbrev pub IsAtMost : ℕ → StalledBid → Type 0
+IsAtMost bytes bid = bid.bytes ≤ bytes
+
+-- A bid of some bytes has stood for as long as each worker needs to look at its clients, and none of those that stand is greater.
+pub record Wins (now : ℕ) (own : StalledBid) (bids : List StalledBid) : Type 0 where
+  pub some : 0 < own.bytes
+  pub heard : own.since + BID_WAITS_MS ≤ now
+  pub most : All (IsAtMost own.bytes) bids
