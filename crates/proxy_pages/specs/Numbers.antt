@@ -13,7 +13,6 @@ use Rattle.proxy_pages.specs.declared.metric.Way.TheVariants.{Read, Written}
 use Rattle.proxy_pages.specs.declared.snapshot.Look.{Look}
 use Rattle.proxy_pages.specs.declared.snapshot.Moved.{Moved}
 use Rattle.proxy_pages.specs.declared.snapshot.Snapshot.{Snapshot}
-use Rattle.proxy_pages.specs.declared.snapshot.LineHosts.{LineHosts}
 
 -- the number, or the greatest `u64` where it is more
 abbrev pub capped : ℕ → ℕ

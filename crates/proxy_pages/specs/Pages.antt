@@ -125,7 +125,7 @@ return_text name host now (Some ejected) = fault_text name host (reason_word eje
 
 -- the same of each host that is
 abbrev pub returns_text : About → Snapshot → List ℕ → List ℕ
-returns_text about s name = each (host_count about) (λ i. return_text name (host_name about i) s.now (get_or s.ejected i None))
+returns_text about s name = each (host_count about) (λ i. return_text name (host_name about i) s.moment (get_or s.ejected i None))
 
 -- the bytes that went this way, at sockets of clients and at links to hosts
 abbrev pub peers_text : List ℕ → Snapshot → Way → List ℕ

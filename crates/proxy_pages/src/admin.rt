@@ -66,7 +66,9 @@ impl<'a> Admin<'a> {
             Reply::Taken(Order::Drain { .. }) => response.body.put_slice(b"it drains\n"),
             Reply::Taken(Order::Quit) => response.body.put_slice(b"it ends\n"),
             Reply::Forbidden => response.body.put_slice(b"no order from a browser's page\n"),
-            Reply::BadQuery => response.body.put_slice(b"/drain takes ?after=MS, 0 to 86400000\n"),
+            Reply::BadQuery => response
+                .body
+                .put_slice(b"/drain takes ?after=MS, 0 to 86400000\n"),
             Reply::OnlyRead | Reply::OnlySent | Reply::NotFound => Ok(()),
         }
     }
@@ -141,7 +143,12 @@ impl<'a> Service for Admin<'a> {
     ) -> Result<(), AllocError> {
         let has_origin = request.headers().get(header::ORIGIN).is_some();
         let uri = request.uri();
-        let reply = reply_to(request.method().as_str(), uri.path(), uri.query(), has_origin);
+        let reply = reply_to(
+            request.method().as_str(),
+            uri.path(),
+            uri.query(),
+            has_origin,
+        );
         self.write(reply, response)?;
         if let Reply::Taken(order) = reply {
             self.order = Some(order);

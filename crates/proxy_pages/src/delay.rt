@@ -1,7 +1,6 @@
 //! The delay that an order to drain asks for.
-ghost use Rattle.std.specs.Prelude.{◌≡◌, ◌↔◌, IsTrue};
+ghost use Rattle.std.specs.Prelude.{◌≡◌};
 ghost use Rattle.std.specs.Option.{option_copied};
-ghost use Rattle.std.specs.Str.Parse.{IsNumeral};
 ghost use Rattle.proxy_pages.specs.Delays.{delay_in, ms_in};
 
 /// The greatest delay, in milliseconds.
@@ -22,7 +21,7 @@ pub(crate) enum Delay {
 
 /// The delay in `after=MS`, where MS is a decimal number up to the greatest.
 pub(crate) fn delay_in(query: Option<&str>) -> Delay
-    ensures { result ≡ delay_in (option_copied query) }
+    ensures { result ≡ delay_in (option_copied query.entry) }
 {
     let Some(query) = query else {
         return Delay::Unsaid;
@@ -38,6 +37,7 @@ fn ms_in(digits: &str) -> Delay
 {
     match digits.parse::<u64>() {
         Ok(ms) if ms <= MAX_DRAIN_AFTER_MS => Delay::Ms(ms),
-        Ok(_) | Err(_) => Delay::Bad,
+        Ok(_) => Delay::Bad,
+        Err(_) => Delay::Bad,
     }
 }

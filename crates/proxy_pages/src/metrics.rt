@@ -222,7 +222,13 @@ fn push_returns(
         ++ returns_text about.now snapshot.now name.now) }
 {
     for i in 0..about.host_count() {
-        push_return(page, name, about.host_name(i), snapshot.now, snapshot.ejected[i])?;
+        push_return(
+            page,
+            name,
+            about.host_name(i),
+            snapshot.moment,
+            snapshot.ejected[i],
+        )?;
     }
     Ok(())
 }
@@ -253,8 +259,10 @@ fn push_peers(
     ensures { OnOk result (page.new.items ≡ page.old.items
         ++ peers_text name.now snapshot.now way) }
 {
-    push_labelled(page, name, "peer", "clients", way.of(&snapshot.clients_moved))?;
-    push_labelled(page, name, "peer", "hosts", way.of(&snapshot.hosts_moved))
+    let clients = way.of(&snapshot.clients_moved);
+    let hosts = way.of(&snapshot.hosts_moved);
+    push_labelled(page, name, "peer", "clients", clients)?;
+    push_labelled(page, name, "peer", "hosts", hosts)
 }
 
 fn push_host_outs(

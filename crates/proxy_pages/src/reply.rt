@@ -55,7 +55,7 @@ pub(crate) enum Reply {
 
 /// The reply to a request with this method, path and query. A request with an origin comes from a web page.
 pub(crate) fn reply_to(method: &str, path: &str, query: Option<&str>, has_origin: bool) -> Reply
-    ensures { result ≡ reply_to method.now path.now (option_copied query) has_origin }
+    ensures { result ≡ reply_to method.now path.now (option_copied query.entry) has_origin }
 {
     if path == "/drain" {
         return reply_to_order(method, has_origin, drain_by(delay_in(query)));

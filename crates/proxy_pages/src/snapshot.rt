@@ -163,7 +163,7 @@ pub struct Snapshot {
     pub hosts_moved: Moved,
 
     /// The moment of this snapshot, in milliseconds.
-    pub now: u64,
+    pub moment: u64,
 
     /// Each host that a line has put aside, by its number; of several lines the one that has it back first.
     pub ejected: [Option<EjectedHost>; MAX_HOSTS],

@@ -1,5 +1,5 @@
 -- What the log says of hosts that are ejected.
-use Rattle.std.specs.Prelude.{◌≡◌, ◌≢◌, ◌≤◌, ◌<◌, ◌==◌, if◌then◌else◌, nat_lt, ℕ, is_some, List, Option, Some, None, slice_get, slice_set}
+use Rattle.std.specs.Prelude.{◌≡◌, ◌≢◌, ◌≤◌, ◌==◌, if◌then◌else◌, nat_lt, ℕ, is_some, List, Option, Some, None, slice_get, slice_set}
 use Rattle.proxy_serve_core.specs.declared.ejection_log.EjectedHost.{EjectedHost}
 
 -- the newest generation that looked, and each host that is ejected

@@ -1,5 +1,5 @@
 -- Which worker is to close a stalled client.
-use Rattle.std.specs.Prelude.{◌≡◌, ◌≤◌, ◌<◌, ◌+◌, ◌-◌, ◌==◌, ◌&&◌, ◌++◌, if◌then◌else◌, nat_lt, not, ℕ, Bool, List, [], ◌∷◌, filter}
+use Rattle.std.specs.Prelude.{◌≤◌, ◌<◌, ◌+◌, ◌-◌, ◌==◌, ◌&&◌, ◌++◌, if◌then◌else◌, nat_lt, not, ℕ, Bool, List, [], ◌∷◌, filter}
 use Rattle.std.specs.List.{All}
 use Rattle.proxy_serve_core.specs.declared.stalled_bids.StalledBid.{StalledBid}
 use Rattle.proxy_serve_core.specs.declared.stalled_bids.TheConstants.{BID_STANDS_MS, BID_WAITS_MS}

@@ -183,7 +183,7 @@ impl<C: Drop> Server<C> {
     }
 
     /// The numbers of the server at this moment.
-    pub fn snapshot<R: Wait>(&self, rt: &R, now: u64) -> Snapshot {
+    pub fn snapshot<R: Wait>(&self, rt: &R, moment: u64) -> Snapshot {
         let is_ordered = self.process.drain_plan.lock(rt).is_ordered();
         let is_ending = is_ordered || self.is_draining() || !self.runs();
         let mut all = Snapshot {
@@ -201,7 +201,7 @@ impl<C: Drop> Server<C> {
             host_durations: *self.process.host_durations.lock(rt).hosts(),
             clients_moved: Moved::NONE,
             hosts_moved: Moved::NONE,
-            now,
+            moment,
             ejected: [None; MAX_HOSTS],
             lines: self.lines.len(),
             line_hosts: [LineHosts::NONE; MAX_LINES_SHOWN],

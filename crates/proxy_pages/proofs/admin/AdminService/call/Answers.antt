@@ -13,8 +13,8 @@ returns-in-Taken-clause-ok c =
     let q = c.args.request.now in
     let head = head_of q in
     let method = c.as_str.ensures.value ∙ c.method.ensures in
-    let path = c.path.ensures.value ∙ ap uri_path c.uri.ensures in
-    let query = c.query.ensures.value ∙ ap uri_query c.uri.ensures in
+    let path = c.path.ensures.value ∙ ap uri_path c.uri-uri.ensures in
+    let query = c.query.ensures.value ∙ ap uri_query c.uri-uri.ensures in
     let origin : c.is_some-has_origin.result ≡ has_origin q = let a = c.is_some-has_origin.ensures in let b = c.get.ensures.value in let d = c.headers.ensures in search rules in
     let reply : c.reply_to-reply.result ≡ reply_for q = c.reply_to-reply.ensures ∙ (λ i. reply_to (method i) (path i) (query i) (origin i)) in
     record {
@@ -30,8 +30,8 @@ returns-in_default c =
     let q = c.args.request.now in
     let head = head_of q in
     let method = c.as_str.ensures.value ∙ c.method.ensures in
-    let path = c.path.ensures.value ∙ ap uri_path c.uri.ensures in
-    let query = c.query.ensures.value ∙ ap uri_query c.uri.ensures in
+    let path = c.path.ensures.value ∙ ap uri_path c.uri-uri.ensures in
+    let query = c.query.ensures.value ∙ ap uri_query c.uri-uri.ensures in
     let origin : c.is_some-has_origin.result ≡ has_origin q = let a = c.is_some-has_origin.ensures in let b = c.get.ensures.value in let d = c.headers.ensures in search rules in
     let reply : c.reply_to-reply.result ≡ reply_for q = c.reply_to-reply.ensures ∙ (λ i. reply_to (method i) (path i) (query i) (origin i)) in
     record {
