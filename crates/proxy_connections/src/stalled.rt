@@ -23,11 +23,7 @@ pub(crate) fn most_stalled(clients: &Slab<ClientConnection>, now: u64) -> Option
     for key in 0..clients.capacity() {
         most = more_stalled(clients, key, now, most);
     }
-    if most.bytes == 0 {
-        None
-    } else {
-        Some(most)
-    }
+    if most.bytes == 0 { None } else { Some(most) }
 }
 
 fn more_stalled(clients: &Slab<ClientConnection>, key: usize, now: u64, most: Stalled) -> Stalled
