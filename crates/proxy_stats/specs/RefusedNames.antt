@@ -26,9 +26,11 @@ times key names = count_by (λ name. is_shown name && bytes_eq (key_of name) key
 
 -- ---- places
 
+-- the key of a free place
 abbrev pub no_key : List ℕ
 no_key = replicate 32 0
 
+-- a free place
 abbrev pub free_place : RefusedName
 free_place = record { key = no_key; count = 0; weight = 0 }
 
@@ -36,6 +38,7 @@ free_place = record { key = no_key; count = 0; weight = 0 }
 abbrev pub nowhere : RefusedName
 nowhere = record { key = []; count = 0; weight = 0 }
 
+-- whether no name has the place
 abbrev pub is_free : RefusedName → Bool
 is_free p = p.count == 0
 
@@ -43,6 +46,7 @@ is_free p = p.count == 0
 abbrev pub shown_name : RefusedName → List ℕ
 shown_name p = before_first (λ b. b == 0) p.key
 
+-- whether a place is that of the name with this key
 abbrev pub has_key : List ℕ → RefusedName → Bool
 has_key key p = bytes_eq p.key key
 
@@ -66,6 +70,10 @@ total r = sum_by count r.places + r.others
 abbrev pub HaveOneNameEach : List RefusedName → Type 0
 HaveOneNameEach ps = AllPairs (λ p q. p.key ≡ q.key → p.key ≡ no_key) ps
 
+-- some place is free
+abbrev pub HasRoom : List RefusedName → Type 0
+HasRoom ps = (j : ℕ) × (j < length ps) × ((slice_index_or ps j nowhere).count ≡ 0)
+
 -- ---- what the numbers mean
 
 -- The numbers are those of these names: together how many came, each place's at most how often its name came, and no name has two places.
@@ -75,19 +83,20 @@ pub record AreCountedIn (names : List (List ℕ)) (r : RefusedNames) : Type 0 wh
   pub each : (key : List ℕ) → counted key r.places ≤ times key names
   pub once : HaveOneNameEach r.places
 
--- And a name that came more often than each 33rd time has a place.
+-- The numbers are those of these names, and a name that came more often than each 33rd time has a place.
 pub record AreNamesOf (names : List (List ℕ)) (r : RefusedNames) : Type 0 where
   pub counts : AreCountedIn names r
   pub often : (name : List ℕ) → length names < 33 * times (key_of name) names → list_any (has_key (key_of name)) r.places ≡ true
 
 -- ---- two of them together
 
--- The numbers of both together: how many came is the sum, as long as a number can tell it; no name is counted more often than in both together; and
--- no name has two places.
+-- The numbers of both together, as long as a number can tell how many came: that is the sum; no name is counted more often than in both together;
+-- each is counted so often, if a place is still free; and no name has two places.
 pub record AreAdded (a b c : RefusedNames) : Type 0 where
   pub places : length a.places ≡ 32 → length c.places ≡ 32
   pub all : total a + total b < 2 ^ 64 → total c ≡ total a + total b
   pub each : (key : List ℕ) → counted key c.places ≤ counted key a.places + counted key b.places
+  pub full : total a + total b < 2 ^ 64 → HasRoom c.places → HasRoom a.places × ((key : List ℕ) → counted key c.places ≡ counted key a.places + counted key b.places)
   pub once : HaveOneNameEach a.places → HaveOneNameEach c.places
 
 -- the numbers with one place more
@@ -95,6 +104,7 @@ pub record AreAddedWith (a : RefusedNames) (p : RefusedName) (c : RefusedNames) 
   pub places : length c.places ≡ length a.places
   pub all : total a + p.count < 2 ^ 64 → total c ≡ total a + p.count
   pub each : (key : List ℕ) → counted key c.places ≤ counted key a.places + count_of key p
+  pub full : total a + p.count < 2 ^ 64 → HasRoom c.places → HasRoom a.places × ((key : List ℕ) → counted key c.places ≡ counted key a.places + count_of key p)
   pub once : HaveOneNameEach a.places → HaveOneNameEach c.places
 
 -- a place with the count of another of its name
@@ -132,7 +142,7 @@ leaving p = if nat_le p.weight 1 then p.count else 0
 abbrev pub lightened : RefusedNames → RefusedNames
 lightened r = record { places = map lighter r.places; others = capped (r.others + 1 + sum_by leaving r.places) }
 
--- a name without a place: it gets a free one, or each place is lighter
+-- the numbers with a name that has no place: it gets a free one, or each place is lighter
 unfoldable pub placed : RefusedNames → List ℕ → RefusedNames
 placed r key =
     let free = position_or_len is_free r.places in
@@ -140,7 +150,7 @@ placed r key =
     then record r { places = slice_set r.places free (newly_placed key) }
     else lightened r
 
--- a name that can have a place
+-- the numbers with one name more that can have a place
 unfoldable pub noted_key : RefusedNames → List ℕ → RefusedNames
 noted_key r key =
     let place = position_or_len (has_key key) r.places in
@@ -148,14 +158,14 @@ noted_key r key =
     then record r { places = slice_set r.places place (more_often (slice_index_or r.places place nowhere)) }
     else placed r key
 
--- any name
+-- the numbers with one name more
 unfoldable pub noted : RefusedNames → List ℕ → RefusedNames
 noted r name = if is_shown name then noted_key r (key_of name) else record r { others = capped (r.others + 1) }
 
--- of no names
+-- the numbers of no names
 abbrev pub no_names : RefusedNames
 no_names = record { places = replicate 32 free_place; others = 0 }
 
--- the names, one after the other
+-- the numbers once these names came, one after the other
 abbrev pub names_after : List (List ℕ) → RefusedNames
 names_after names = fold noted no_names names

@@ -15,7 +15,7 @@ pub struct RefusedName {
     /// The name in lower case, and zeros behind it. All are zeros in a free place.
     pub key: [u8; MAX_NAME_SHOWN],
 
-    /// How many commands of this name are counted here; 0 in a free place.
+    /// How many commands of this name were counted since it has the place; 0 in a free one.
     pub count: u64,
 
     /// How many names without a place have to come before this one loses its own.
@@ -154,10 +154,10 @@ impl RefusedNames {
         }
     }
 
-    /// The counts of both together, as of two lists of names. The greatest `u64` stands for any more.
+    /// The counts of both together. The greatest `u64` stands for any more.
     ///
-    /// Of names that find no place, those with the smaller counts are left to the rest. A name that loses a place here
-    /// and comes again is counted from then on, so a place's count can be less than how often its name came.
+    /// While a place is free, each name is counted as often as in both. Else the smaller of two counts is left to the
+    /// rest, so a place's count can be less than in both, and a name that comes often may have none.
     pub fn plus(&self, other: &RefusedNames) -> RefusedNames
         ensures { AreAdded self.now other.now result }
     {
