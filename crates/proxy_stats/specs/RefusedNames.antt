@@ -90,8 +90,8 @@ pub record AreNamesOf (names : List (List ℕ)) (r : RefusedNames) : Type 0 wher
 
 -- ---- two of them together
 
--- The numbers of both together, as long as a number can tell how many came: that is the sum; no name is counted more often than in both together;
--- each is counted so often, if a place is still free; and no name has two places.
+-- The numbers of both together. As many came as in both, as far as a number can tell it. No name is counted more often than in both, and none less if a place
+-- is free. No name has two places.
 pub record AreAdded (a b c : RefusedNames) : Type 0 where
   pub places : length a.places ≡ 32 → length c.places ≡ 32
   pub all : total a + total b < 2 ^ 64 → total c ≡ total a + total b

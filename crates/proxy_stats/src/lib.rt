@@ -1,8 +1,8 @@
 //! Counts what a proxy did, by its journal.
 //!
 //! [`counts`] reads the journal of a core once. [`TalliedCore`] is a core that counts as it goes, with the same result.
-//! [`RefusedNames`] counts the names of the commands that it refused as unsupported. [`Counts::plus`] and
-//! [`RefusedNames::plus`] join the counts of one core and the next. It stands on `proxy_core` and `proxy_notices`. Begin
+//! [`RefusedNames`] are those of its refused commands. [`Counts::plus`] joins the counts of one core and the next. It
+//! stands on `proxy_core` and `proxy_notices`. Begin
 //! with `tally.rt`, then `tallied_core.rt`.
 #![tactic(auto)]
 

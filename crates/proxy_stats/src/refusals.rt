@@ -10,7 +10,7 @@ use resp_core::SpelledCommand;
 use splitter::Request;
 
 impl RefusedNames {
-    // Notes the name of the command that a step refused.
+    // If the step refused a command.
     #[inline(always)]
     pub(crate) fn note_refused(&mut self, step: &Step<Event, Answer>)
         ensures { self.new ≡ noted_in self.old step.now }

@@ -46,7 +46,7 @@ impl RefusedName {
         self.count == 0
     }
 
-    /// The name, in lower case. It has letters, digits, and `.`, `_`, `-`, `|`.
+    /// The name in lower case: letters, digits, `.`, `_`, `-`, `|`.
     pub fn name(&self) -> &[u8]
         ensures { result.now ≡ shown_name self.now }
     {
@@ -108,9 +108,8 @@ impl RefusedNames {
 
     /// Counts a refused command of this name, in any case.
     ///
-    /// A name that has a place is counted there, and another one gets a free place. Where none is free, it counts
-    /// among the rest, and each place loses of its weight; a place without any gives its count to the rest, and is
-    /// free.
+    /// A name without a place gets a free one. Where none is free, it is one of the rest, and each place loses of its
+    /// weight; a place without weight is free, and its count goes to the rest.
     pub fn note(&mut self, name: &[u8])
         ensures { self.new ≡ noted self.old name.now }
     {
@@ -157,7 +156,7 @@ impl RefusedNames {
     /// The counts of both together. The greatest `u64` stands for any more.
     ///
     /// While a place is free, each name is counted as often as in both. Else the smaller of two counts is left to the
-    /// rest, so a place's count can be less than in both, and a name that comes often may have none.
+    /// rest.
     pub fn plus(&self, other: &RefusedNames) -> RefusedNames
         ensures { AreAdded self.now other.now result }
     {
