@@ -27,6 +27,11 @@ abbrev pub labelled_text : List ℕ → List ℕ → List ℕ → ℕ → List �
 labelled_text name key value number =
     concat (name ∷ codes "{" ∷ key ∷ codes "=\"" ∷ value ∷ codes "\"} " ∷ decimal number ∷ codes "\n" ∷ [])
 
+-- a number of a command's name
+abbrev pub command_text : List ℕ → List ℕ → ℕ → List ℕ
+command_text name command number =
+    concat (name ∷ codes "{command=\"" ∷ escaped command ∷ codes "\"} " ∷ decimal number ∷ codes "\n" ∷ [])
+
 -- a number of a host
 abbrev pub host_text : List ℕ → List ℕ → ℕ → List ℕ
 host_text name host number =

@@ -6,6 +6,9 @@ use Rattle.proxy_histogram.specs.declared.histogram.TheConstants.{BOUNDS_US}
 use Rattle.proxy_histogram.specs.HostDurations.{durations_at}
 use Rattle.proxy_config.specs.declared.config.Host.{Host}
 use Rattle.proxy_stats.specs.declared.tally.Counts.{Counts}
+use Rattle.proxy_stats.specs.declared.refused_names.RefusedName.{RefusedName}
+use Rattle.proxy_stats.specs.declared.refused_names.RefusedNames.{RefusedNames}
+use Rattle.proxy_stats.specs.RefusedNames.{is_free, shown_name}
 use Rattle.proxy_serve_core.specs.FaultLog.{faults_at, of_cause}
 use Rattle.proxy_serve_core.specs.declared.ejection_log.EjectedHost.{EjectedHost}
 use Rattle.proxy_serve_core.specs.declared.ejection_log.EjectionReason.{EjectionReason}
@@ -15,13 +18,13 @@ use Rattle.proxy_serve_core.specs.declared.refused_sockets.RefusedSockets.{Refus
 use Rattle.proxy_pages.specs.declared.metric.Kind.{Kind}
 use Rattle.proxy_pages.specs.declared.metric.Kind.TheVariants.{Counter, Gauge, Histogram as HistogramKind}
 use Rattle.proxy_pages.specs.declared.metric.Numbers.{Numbers}
-use Rattle.proxy_pages.specs.declared.metric.Numbers.TheVariants.{Build, One, ByAnswer, ByCause, ByHost, ByHostFault, Out as ByOut, ByJournal, Durations, Cpu, ByRefusal, HostDurations, Returns, ByPeer}
+use Rattle.proxy_pages.specs.declared.metric.Numbers.TheVariants.{Build, One, ByAnswer, ByCause, ByName, ByHost, ByHostFault, Out as ByOut, ByJournal, Durations, Cpu, ByRefusal, HostDurations, Returns, ByPeer}
 use Rattle.proxy_pages.specs.declared.metric.Way.{Way}
 use Rattle.proxy_pages.specs.declared.metric.HostNumber.{HostNumber}
 use Rattle.proxy_pages.specs.declared.metric.HostNumber.TheVariants.{Sent, Answered, Faults, Lost, Waiting, Flying, Out}
 use Rattle.proxy_pages.specs.declared.snapshot.About.{About}
 use Rattle.proxy_pages.specs.declared.snapshot.Snapshot.{Snapshot}
-use Rattle.proxy_pages.specs.Lines.{plain_text, labelled_text, host_text, fault_text, line_text, build_text, bound_text, last_bound_text, host_bound_text, last_host_bound_text, host_sum_text, host_count_text, seconds_text}
+use Rattle.proxy_pages.specs.Lines.{plain_text, labelled_text, command_text, host_text, fault_text, line_text, build_text, bound_text, last_bound_text, host_bound_text, last_host_bound_text, host_sum_text, host_count_text, seconds_text}
 use Rattle.proxy_pages.specs.Table.{Row, metrics}
 use Rattle.proxy_pages.specs.Numbers.{number_of, host_number, journal_number, load_at, moved_number, bit, is_out_in, lines_shown}
 
@@ -59,6 +62,14 @@ answer_word i =
 -- what the proxy answered itself, by the kind of the answer
 abbrev pub answers_text : List ℕ → Counts → List ℕ
 answers_text name c = each 7 (λ i. labelled_text name (codes "kind") (answer_word i) (slice_index c.local i))
+
+-- how often a refused command came; nothing for a free place
+abbrev pub refused_name_text : List ℕ → RefusedName → List ℕ
+refused_name_text name p = if is_free p then [] else command_text name (shown_name p) p.count
+
+-- how often refused commands came: those whose names have a place, and the rest
+abbrev pub refused_names_text : List ℕ → RefusedNames → List ℕ
+refused_names_text name r = concat (map (refused_name_text name) r.places) ++ command_text name (codes "(others)") r.others
 
 -- parts that got an error of the proxy's own, by its cause
 abbrev pub causes_text : List ℕ → Counts → List ℕ
@@ -175,6 +186,7 @@ abbrev pub numbers_by : About → Snapshot → List ℕ → Numbers → List ℕ
 numbers_by about s name Build = build_text name about.version.now about.kit.now
 numbers_by about s name (One number) = plain_text name [] (number_of s number)
 numbers_by about s name ByAnswer = answers_text name s.counts
+numbers_by about s name ByName = refused_names_text name s.refused_names
 numbers_by about s name ByCause = causes_text name s.counts
 numbers_by about s name ByRefusal = refusals_text name s.refused
 numbers_by about s name (ByHost number) = host_numbers_text about s name number

@@ -3,7 +3,7 @@ use Rattle.std.specs.Prelude.{ℕ, List, [], ◌∷◌, codes}
 use Rattle.proxy_pages.specs.declared.metric.Kind.{Kind}
 use Rattle.proxy_pages.specs.declared.metric.Kind.TheVariants.{Counter, Gauge, Histogram as HistogramKind}
 use Rattle.proxy_pages.specs.declared.metric.Numbers.{Numbers}
-use Rattle.proxy_pages.specs.declared.metric.Numbers.TheVariants.{Build, One, ByAnswer, ByCause, ByHost, ByHostFault, Out, ByJournal, Durations, Cpu, ByRefusal, HostDurations, Returns, ByPeer}
+use Rattle.proxy_pages.specs.declared.metric.Numbers.TheVariants.{Build, One, ByAnswer, ByCause, ByName, ByHost, ByHostFault, Out, ByJournal, Durations, Cpu, ByRefusal, HostDurations, Returns, ByPeer}
 use Rattle.proxy_pages.specs.declared.metric.Number.TheVariants as number
 use Rattle.proxy_pages.specs.declared.metric.Way.TheVariants as way
 use Rattle.proxy_pages.specs.declared.metric.HostNumber.TheVariants as host
@@ -33,6 +33,7 @@ metrics =
     ∷ row (codes "redproxy_replies_handed_total") Counter (codes "Replies that were handed out to clients.") (One number.Handed)
     ∷ row (codes "redproxy_command_duration_seconds") HistogramKind (codes "Time from the acceptance of a command to its answer.") Durations
     ∷ row (codes "redproxy_local_replies_total") Counter (codes "Commands that the proxy answered itself, by the kind of the answer.") ByAnswer
+    ∷ row (codes "redproxy_refused_commands_total") Counter (codes "Commands that were refused as unsupported, by their name.") ByName
     ∷ row (codes "redproxy_part_errors_total") Counter (codes "Parts of commands that got an error of the proxy's own, by its cause.") ByCause
     ∷ row (codes "redproxy_host_parts_sent_total") Counter (codes "Parts of commands that were sent to the host.") (ByHost host.Sent)
     ∷ row (codes "redproxy_host_replies_total") Counter (codes "Replies of the host.") (ByHost host.Answered)

@@ -40,6 +40,7 @@ th:first-child, td:first-child, td:last-child, th:last-child { text-align: left;
 <figcaption id='caption'></figcaption>
 </figure>
 <table><thead id='head'></thead><tbody id='hosts'></tbody></table>
+<p id='refused'></p>
 <script>
 'use strict';
 const LOOK_MS = 2000, SHORT_MS = 10000, MINUTE_MS = 60000, LINE_MS = 300000;
@@ -168,6 +169,12 @@ function showHosts() {
   }
 }
 
+function showRefused() {
+  const found = names('redproxy_refused_commands_total{').filter(now).sort((one, other) => now(other) - now(one));
+  const told = found.map(name => label(name, 'command') + ' ' + whole(now(name)));
+  by('refused').textContent = told.length ? 'refused commands so far: ' + told.join(', ') : '';
+}
+
 function show() {
   const build = names('redproxy_build_info')[0] || '', clock = new Date().toLocaleTimeString();
   by('version').textContent = label(build, 'version');
@@ -178,6 +185,7 @@ function show() {
   showNumbers();
   showLine();
   showHosts();
+  showRefused();
 }
 
 async function look() {

@@ -1,7 +1,7 @@
 //! Lines of Prometheus's text format.
 ghost use Rattle.std.specs.Prelude.{◌≡◌, ◌++◌, OnOk, map};
 ghost use Rattle.std.specs.List.{concat};
-ghost use Rattle.proxy_pages.specs.Lines.{plain_text, labelled_text, host_text, fault_text, line_text, build_text, bound_text, end_text, host_bound_text, host_count_text, host_label, host_sum_text, last_bound_text, last_host_bound_text, last_three, seconds_text, escaped};
+ghost use Rattle.proxy_pages.specs.Lines.{plain_text, labelled_text, command_text, host_text, fault_text, line_text, build_text, bound_text, end_text, host_bound_text, host_count_text, host_label, host_sum_text, last_bound_text, last_host_bound_text, last_three, seconds_text, escaped};
 
 use itoa::Buffer;
 use std::alloc::AllocError;
@@ -56,6 +56,22 @@ pub(crate) fn push_labelled<'a>(
             "\n",
         ],
     )
+}
+
+/// Appends a number of a command's name.
+pub(crate) fn push_of_command(
+    page: &mut Vec<u8>,
+    name: &str,
+    command: &[u8],
+    number: u64,
+) -> Result<(), AllocError>
+    ensures { OnOk result (page.new.items
+        ≡ page.old.items ++ command_text name.now command.now number) }
+{
+    let mut digits = Buffer::new();
+    push_all(page, &[name, "{command=\""])?;
+    push_escaped(page, command)?;
+    push_all(page, &["\"} ", digits.format(number), "\n"])
 }
 
 /// Appends a number of a host.

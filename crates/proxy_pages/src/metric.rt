@@ -77,6 +77,9 @@ pub(crate) enum Numbers {
     /// One for each kind of the proxy's own answers.
     ByAnswer,
 
+    /// One for each name of refused commands that has a place, and one for the rest.
+    ByName,
+
     /// One for each cause of the proxy's own errors for parts.
     ByCause,
 
@@ -181,7 +184,7 @@ pub(crate) fn reason_word(reason: EjectionReason) -> &'static str
 }
 
 /// The number of metrics.
-pub(crate) const METRIC_COUNT: usize = 35;
+pub(crate) const METRIC_COUNT: usize = 36;
 
 /// All metrics, in the order of the page.
 pub(crate) const METRICS: [Metric; METRIC_COUNT] = [
@@ -214,6 +217,12 @@ pub(crate) const METRICS: [Metric; METRIC_COUNT] = [
         kind: Kind::Counter,
         help: "Commands that the proxy answered itself, by the kind of the answer.",
         numbers: Numbers::ByAnswer,
+    },
+    Metric {
+        name: "redproxy_refused_commands_total",
+        kind: Kind::Counter,
+        help: "Commands that were refused as unsupported, by their name.",
+        numbers: Numbers::ByName,
     },
     Metric {
         name: "redproxy_part_errors_total",

@@ -1,7 +1,7 @@
 //! The page of numbers, in Prometheus's text format.
 ghost use Rattle.std.specs.Prelude.{◌≡◌, ◌++◌, ◌<◌, IfOk, OnOk, map, length};
 ghost use Rattle.std.specs.List.{concat};
-ghost use Rattle.proxy_pages.specs.Pages.{head_text, metric_text, metrics_text, numbers_text, answers_text, causes_text, host_numbers_text, host_faults_text, fault_word, faults_text, lines_out_text, host_outs_text, outs_text, durations_text, bounds_text, sum_text, cpu_text, refusals_text, peers_text, return_text, returns_text, host_bounds_text, host_durations_text, host_histogram_text};
+ghost use Rattle.proxy_pages.specs.Pages.{head_text, metric_text, metrics_text, numbers_text, answers_text, refused_name_text, refused_names_text, causes_text, host_numbers_text, host_faults_text, fault_word, faults_text, lines_out_text, host_outs_text, outs_text, durations_text, bounds_text, sum_text, cpu_text, refusals_text, peers_text, return_text, returns_text, host_bounds_text, host_durations_text, host_histogram_text};
 ghost use Rattle.proxy_pages.specs.Numbers.{bit};
 ghost use Rattle.proxy_pages.specs.Table.{row_of};
 ghost use Rattle.proxy_pages.specs.Lines.{fault_text};
@@ -9,8 +9,8 @@ ghost use Rattle.proxy_serve_core.specs.FaultLog.{of_cause};
 
 use crate::lines::{
     push_all, push_bound, push_build, push_fault, push_host_bound, push_host_count, push_host_sum,
-    push_labelled, push_last_bound, push_last_host_bound, push_of_host, push_of_line, push_plain,
-    push_seconds,
+    push_labelled, push_last_bound, push_last_host_bound, push_of_command, push_of_host,
+    push_of_line, push_plain, push_seconds,
 };
 use crate::metric::{
     HostNumber, METRICS, Metric, Numbers, Way, answer_word, fault_word, reason_word,
@@ -19,8 +19,11 @@ use crate::snapshot::{About, Snapshot};
 use limits::MAX_HOSTS;
 use proxy_histogram::{BOUNDS, BOUNDS_US, Histogram};
 use proxy_serve_core::{EjectedHost, FaultCause, HostFaults, RefusedSockets};
-use proxy_stats::{Counts, LOCAL_KINDS};
+use proxy_stats::{Counts, LOCAL_KINDS, RefusedName, RefusedNames};
 use std::alloc::{AllocError, Global};
+
+// What the page calls the names without a place. No name that has one has a bracket.
+const OTHERS: &str = "(others)";
 
 /// The page: each metric of the table, with its numbers in the snapshot.
 pub(crate) fn page(
@@ -97,6 +100,7 @@ impl Metric {
             Numbers::Build => push_build(page, self.name, about.version, about.kit),
             Numbers::One(number) => push_plain(page, self.name, "", number.of(snapshot)),
             Numbers::ByAnswer => push_answers(page, self.name, &snapshot.counts),
+            Numbers::ByName => push_names(page, self.name, &snapshot.refused_names),
             Numbers::ByCause => push_causes(page, self.name, &snapshot.counts),
             Numbers::ByRefusal => push_refusals(page, self.name, &snapshot.refused),
             Numbers::ByHost(number) => push_hosts(page, self.name, number, about, snapshot),
@@ -126,6 +130,34 @@ fn push_answers(page: &mut Vec<u8>, name: &str, counts: &Counts) -> Result<(), A
         push_labelled(page, name, "kind", answer_word(i), counts.local[i])?;
     }
     Ok(())
+}
+
+fn push_names(page: &mut Vec<u8>, name: &str, names: &RefusedNames) -> Result<(), AllocError>
+    ensures { OnOk result (page.new.items ≡ page.old.items
+        ++ refused_names_text name.now names.now) }
+{
+    push_places(page, name, &names.places)?;
+    push_of_command(page, name, OTHERS.as_bytes(), names.others)
+}
+
+fn push_places(page: &mut Vec<u8>, name: &str, places: &[RefusedName]) -> Result<(), AllocError>
+    ensures { OnOk result (page.new.items ≡ page.old.items
+        ++ concat (map (refused_name_text name.now) places.now)) }
+{
+    for place in places {
+        push_place(page, name, place)?;
+    }
+    Ok(())
+}
+
+fn push_place(page: &mut Vec<u8>, name: &str, place: &RefusedName) -> Result<(), AllocError>
+    ensures { OnOk result (page.new.items ≡ page.old.items
+        ++ refused_name_text name.now place.now) }
+{
+    if place.is_free() {
+        return Ok(());
+    }
+    push_of_command(page, name, place.name(), place.count)
 }
 
 fn push_causes(page: &mut Vec<u8>, name: &str, counts: &Counts) -> Result<(), AllocError>

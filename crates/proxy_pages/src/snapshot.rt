@@ -6,7 +6,7 @@ use limits::MAX_HOSTS;
 use proxy_config::Host;
 use proxy_histogram::Histogram;
 use proxy_serve_core::{EjectedHost, HostFaults, RefusedSockets};
-use proxy_stats::{Counts, Load};
+use proxy_stats::{Counts, Load, RefusedNames};
 
 /// The most lines of generations that are shown one by one.
 pub const MAX_LINES_SHOWN: usize = 64;
@@ -128,6 +128,9 @@ impl ProcessUse {
 pub struct Snapshot {
     /// The counts of all generations, gone and living.
     pub counts: Counts,
+
+    /// The names of refused commands, of all generations, gone and living.
+    pub refused_names: RefusedNames,
 
     /// The number of generations opened.
     pub generations: u64,

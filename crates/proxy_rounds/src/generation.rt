@@ -321,11 +321,8 @@ fn run_threads<'a, R: ServeRuntime>(
     Ok(())
 }
 
-// Reports that the generation is gone, with its core's counts and steps.
+// Reports that the generation is gone, with its core.
 fn report_end<R: Wait>(rt: &R, generation: &GenerationState<'_>, core: TalliedCore) {
-    let steps = core.core().journal().len() as u64;
-    generation
-        .line()
-        .gone(rt, generation.number(), core.counts(), steps);
+    generation.line().gone(rt, generation.number(), &core);
     drop(core);
 }

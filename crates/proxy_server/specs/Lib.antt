@@ -1,5 +1,6 @@
 pub mod CountSums
 pub mod LookSums
+pub mod NameSums
 pub mod Living
 pub mod Words
 pub mod Board

@@ -10,6 +10,7 @@ abbrev pub seen_of : ℕ → Sight → Living
 seen_of number sight = record {
   number = number;
   counts = sight.counts;
+  refused_names = sight.refused_names;
   look = record { steps = sight.handover.steps; bytes = sight.handover.bytes; load = sight.load };
 }
 

@@ -16,7 +16,7 @@ use proxy_generations::{At, Due, Generations, Phase};
 use proxy_histogram::Histogram;
 use proxy_pages::{MAX_LINES_SHOWN, Moved, Snapshot};
 use proxy_serve_core::{EjectedHost, EjectionLog, FaultCause, LinkLoss};
-use proxy_stats::{Counts, Sight};
+use proxy_stats::{Counts, Sight, TalliedCore};
 use std::alloc::{AllocError, Global};
 use std::collections::VecDeque;
 use std::sync::atomic::Ordering;
@@ -347,9 +347,12 @@ impl<C: Drop> Line<C> {
         self.process.faults.lock(rt).count(host, cause);
     }
 
-    /// A generation is gone, with these counts and steps.
-    pub fn gone<R: Wait>(&self, rt: &R, number: u64, counts: &Counts, steps: u64) {
-        self.stats.lock(rt).gone(number, counts, steps);
+    /// A generation is gone, with this core.
+    pub fn gone<R: Wait>(&self, rt: &R, number: u64, core: &TalliedCore) {
+        let steps = core.core().journal().len() as u64;
+        self.stats
+            .lock(rt)
+            .gone(number, core.counts(), core.refused_names(), steps);
     }
 
     /// Adds the durations of commands.
@@ -404,6 +407,7 @@ impl<C: Drop> Line<C> {
             all.line_hosts[number] = line_hosts(&serving);
         }
         all.counts = all.counts.plus(&stats.counts());
+        all.refused_names = all.refused_names.plus(&stats.refused_names());
         all.generations = all.generations.saturating_add(stats.generations());
         all.past_steps = all
             .past_steps

@@ -6,18 +6,20 @@ ghost use Rattle.proxy_stats.specs.Sums.{capped_sum};
 ghost use Rattle.proxy_server.specs.Living.{is_beside, is_draining, is_number, look_at, seen_of};
 ghost use Rattle.proxy_server.specs.CountSums.{AreSums};
 ghost use Rattle.proxy_server.specs.LookSums.{IsLookSum};
+ghost use Rattle.proxy_server.specs.NameSums.{AreNameSums};
 
 use crate::line::Inherited;
 use crate::look_sum::{both, no_look};
 use proxy_generations::Generations;
 use proxy_pages::Look;
-use proxy_stats::{Counts, Sight};
+use proxy_stats::{Counts, RefusedNames, Sight};
 
 /// The newest look at a generation.
 #[derive(Clone, Copy, Drop)]
 pub(crate) struct Living {
     pub(crate) number: u64,
     pub(crate) counts: Counts,
+    pub(crate) refused_names: RefusedNames,
     pub(crate) look: Look,
 }
 
@@ -28,6 +30,7 @@ impl Living {
         Living {
             number,
             counts: sight.counts,
+            refused_names: sight.refused_names,
             look: Look {
                 steps: sight.handover.steps(),
                 bytes: sight.handover.bytes(),
@@ -52,6 +55,23 @@ pub(crate) fn counts(past: &Counts, living: &[Living]) -> Counts
         counts = counts.plus(&one.counts);
     }
     counts
+}
+
+fn no_names() -> RefusedNames
+    ensures { AreNameSums [] result }
+{
+    RefusedNames::NONE
+}
+
+/// The sum of these names and of all looks.
+pub(crate) fn refused_names(past: &RefusedNames, living: &[Living]) -> RefusedNames
+    ensures { AreNameSums (past.now ∷ map (λ l. l.refused_names) living.now) result }
+{
+    let mut names = no_names().plus(past);
+    for one in living {
+        names = names.plus(&one.refused_names);
+    }
+    names
 }
 
 fn is_number(number: Option<u64>, this: u64) -> bool

@@ -12,7 +12,7 @@ use proxy_config::Config;
 use proxy_histogram::Histogram;
 use proxy_pages::{LineHosts, MAX_LINES_SHOWN, Moved, ProcessUse, Snapshot};
 use proxy_serve_core::{DrainOrder, SocketRefusal};
-use proxy_stats::Counts;
+use proxy_stats::{Counts, RefusedNames};
 use std::alloc::Global;
 use std::sync::{Arc, Wait};
 
@@ -188,6 +188,7 @@ impl<C: Drop> Server<C> {
         let is_ending = is_ordered || self.is_draining() || !self.runs();
         let mut all = Snapshot {
             counts: Counts::NONE,
+            refused_names: RefusedNames::NONE,
             generations: 0,
             past_steps: 0,
             serving: no_look(),

@@ -3,10 +3,12 @@ ghost use Rattle.std.specs.Prelude.{◌≡◌, ◌≤◌, ◌<◌, ◌+◌, [], 
 ghost use Rattle.proxy_generations.specs.Events.{Event};
 ghost use Rattle.proxy_generations.specs.GenerationsState.{Settings, Stands};
 ghost use Rattle.proxy_histogram.specs.Values.{IsOf};
+ghost use Rattle.proxy_stats.specs.RefusedNames.{AreAdded};
 ghost use Rattle.proxy_stats.specs.Sums.{AreJoined, capped_sum};
 ghost use Rattle.proxy_server.specs.Living.{is_beside, is_draining, look_at, seen_of, with_look, without};
 ghost use Rattle.proxy_server.specs.CountSums.{AreSums};
 ghost use Rattle.proxy_server.specs.LookSums.{IsLookSum};
+ghost use Rattle.proxy_server.specs.NameSums.{AreNameSums};
 ghost use Rattle.proxy_server.specs.declared.stats.TheConstants.{MAX_LIVING};
 
 use crate::line::Inherited;
@@ -15,7 +17,7 @@ use limits::MAX_GENERATIONS;
 use proxy_generations::Generations;
 use proxy_histogram::Histogram;
 use proxy_pages::Look;
-use proxy_stats::{Counts, Sight};
+use proxy_stats::{Counts, RefusedNames, Sight};
 use std::alloc::{AllocError, Global};
 
 // Generations with connections, those closing their gates, and one that opens.
@@ -26,6 +28,7 @@ pub(crate) struct Stats {
     generations: u64,
     // Of generations that are gone.
     past: Counts,
+    past_names: RefusedNames,
     past_steps: u64,
     living: Vec<Living>,
     durations: Histogram,
@@ -36,6 +39,7 @@ impl Stats {
     pub(crate) fn new(alloc: Global) -> Result<Stats, AllocError>
         ensures generations { IfOk result (λ s. s.generations ≡ 0) }
         ensures past { IfOk result (λ s. s.past ≡ Counts.NONE) }
+        ensures names { IfOk result (λ s. s.past_names ≡ RefusedNames.NONE) }
         ensures steps { IfOk result (λ s. s.past_steps ≡ 0) }
         ensures living { IfOk result (λ s. s.living.items ≡ []) }
         ensures durations { IfOk result (λ s. IsOf [] s.durations) }
@@ -43,6 +47,7 @@ impl Stats {
         Ok(Stats {
             generations: 0,
             past: Counts::NONE,
+            past_names: RefusedNames::NONE,
             past_steps: 0,
             living: Vec::with_capacity(alloc, MAX_LIVING)?,
             durations: Histogram::new(),
@@ -68,19 +73,22 @@ impl Stats {
         push_within(&mut self.living, Living::new(number, sight));
     }
 
-    pub(crate) fn gone(&mut self, number: u64, counts: &Counts, steps: u64)
+    pub(crate) fn gone(&mut self, number: u64, counts: &Counts, names: &RefusedNames, steps: u64)
         ensures living { self.new.living.items ≡ without number self.old.living.items }
         ensures past { AreJoined self.old.past counts.now self.new.past }
+        ensures names { AreAdded self.old.past_names names.now self.new.past_names }
         ensures steps { self.new.past_steps ≡ capped_sum (self.old.past_steps + steps) }
         ensures rest { self.new ≡ record self.old {
           living = self.new.living;
           roomy = self.new.roomy;
           past = self.new.past;
+          past_names = self.new.past_names;
           past_steps = self.new.past_steps;
         } }
     {
         forget(&mut self.living, number);
         self.past = self.past.plus(counts);
+        self.past_names = self.past_names.plus(names);
         self.past_steps = self.past_steps.saturating_add(steps);
     }
 
@@ -118,6 +126,14 @@ impl Stats {
         ensures { AreSums (self.now.past ∷ map (λ l. l.counts) self.now.living.items) result }
     {
         living::counts(&self.past, self.living.as_slice())
+    }
+
+    /// The names of refused commands of all generations.
+    pub(crate) fn refused_names(&self) -> RefusedNames
+        ensures { AreNameSums (self.now.past_names
+            ∷ map (λ l. l.refused_names) self.now.living.items) result }
+    {
+        living::refused_names(&self.past_names, self.living.as_slice())
     }
 
     pub(crate) fn look(&self, number: Option<u64>) -> Look

@@ -1,14 +1,10 @@
--- The counts of a journal, as a function of its steps, and what a core that counts tells of itself.
+-- The counts of a journal, as a function of its steps.
 use Rattle.std.specs.Prelude.{◌≡◌, ℕ, ◌<◌, ◌^◌, All, List, length, map, sum_by}
 use Rattle.std.specs.List.{range_with_len}
 use Rattle.proxy_history.specs.History.{Step}
-use Rattle.proxy_history.specs.SeenSteps.{history_of_seen}
-use Rattle.proxy_core.specs.Recorded.{Origin, handover_of, setting_by}
 use Rattle.proxy_stats.specs.declared.tally.Counts.{Counts}
 use Rattle.proxy_stats.specs.declared.tally.HostCounts.{HostCounts}
-use Rattle.proxy_stats.specs.declared.tallied_core.Sight.{Sight}
 use Rattle.proxy_stats.specs.Amounts.{arrivals, handings, takings, replies, failures, lost_parts, ejected_hosts, kept_hosts, hostless_parts, busy_parts, own_answers, of_host}
-use Rattle.proxy_stats.specs.Load.{load_of}
 use Rattle.proxy_stats.specs.Sums.{AreCapped, AreGrown}
 
 -- the counts of host h over the steps
@@ -53,11 +49,3 @@ pub record HasCounted (old : Counts) (step : Step) (new : Counts) : Type 0 where
   pub few : TellsFewHosts step
   pub kinds : length new.local ≡ length old.local
   pub hosts : length new.hosts ≡ length old.hosts
-
--- what a look at a core that counts tells: the handover, the counts and the load of a journal
-abbrev pub sight_of : Origin → List Step → Sight
-sight_of made journal = record {
-  handover = handover_of made journal;
-  counts = counts_of journal;
-  load = load_of (setting_by made) (history_of_seen journal);
-}

@@ -2,9 +2,12 @@
 ghost use Rattle.std.specs.Prelude.{◌≡◌, ◌∷◌, [], ◌++◌, List, IfOk, IfSome};
 ghost use Rattle.proxy_history.specs.History.{Step as StepOf};
 ghost use Rattle.proxy_stats.specs.Counts.{AreKept, HasCounted, counts_of};
+ghost use Rattle.proxy_stats.specs.RefusedNames.{AreNamesOf, no_names};
+ghost use Rattle.proxy_stats.specs.Refusals.{noted_in, refused_in, refused_names_of};
 ghost use Rattle.proxy_stats.specs.Sums.{AreCounts};
 
 use crate::load::{Load, load_of};
+use crate::refused_names::RefusedNames;
 use crate::tally::Counts;
 use crate::telling::{Teller, concern_of};
 use ejector::EjectState;
@@ -22,6 +25,7 @@ pub struct TalliedCore {
     core: CountingCore,
     // On the heap, since a gate moves its state in and out at each turn.
     counts: Box<Counts>,
+    names: Box<RefusedNames>,
     teller: Box<Teller>,
 }
 
@@ -30,6 +34,7 @@ impl Drop for TalliedCore {
         let TalliedCore {
             core: _,
             counts: _,
+            names: _,
             teller: _,
         } = self;
     }
@@ -44,6 +49,9 @@ pub struct Sight {
     /// The counts so far.
     pub counts: Counts,
 
+    /// The names of the refused commands so far.
+    pub refused_names: RefusedNames,
+
     /// The core's load.
     pub load: Load,
 }
@@ -55,13 +63,13 @@ impl Model for TalliedCore {
 
     ghost use Rattle.std.specs.Coded.{codes};
     ghost use Rattle.resp_core.specs.Code.{tree_code};
-    ghost use Rattle.proxy_stats.specs.Counts.{AreKept};
+    ghost use Rattle.proxy_stats.specs.Refusals.{AreTallied};
 
     ghost coded = { Prim.hlevel (codes, tree_code) };
 
     ghost view = { λ c. c.core };
 
-    ghost invariant = { λ c. AreKept c.core.steps c.counts.value };
+    ghost invariant = { λ c. AreTallied c.core.steps c.counts.value c.names.value };
 }
 
 impl TalliedCore {
@@ -79,10 +87,14 @@ impl TalliedCore {
         let Some(counts) = boxed(alloc, counts_of_nothing()) else {
             return Err(AllocError);
         };
+        let Some(names) = boxed(alloc, no_refused_names()) else {
+            return Err(AllocError);
+        };
         match boxed(alloc, Teller::new(notices)) {
             Some(teller) => Ok(TalliedCore {
                 core,
                 counts,
+                names,
                 teller,
             }),
             None => Err(AllocError),
@@ -98,6 +110,15 @@ impl TalliedCore {
         &self.counts
     }
 
+    /// The names of the commands so far that the core refused as unsupported.
+    pub fn refused_names(&self) -> &RefusedNames
+        ensures names { AreNamesOf (refused_in self.now.steps) result.now }
+        ensures value { result.now ≡ refused_names_of self.now.steps }
+    {
+        let _journal = self.core.journal();
+        &self.names
+    }
+
     /// The core.
     pub fn core(&self) -> &CountingCore
         ensures { result.now ≡ self.now }
@@ -108,7 +129,7 @@ impl TalliedCore {
 
 impl Recorded for TalliedCore {
     ghost use Rattle.proxy_core.specs.Recorded.{journal_of, made_with, IsLegalJournal, IsCauseIn, legal_at_first, legal_before};
-    ghost use Rattle.proxy_stats.specs.Counts.{sight_of};
+    ghost use Rattle.proxy_stats.specs.Sight.{sight_of};
 
     type Event = Event;
 
@@ -134,6 +155,7 @@ impl Recorded for TalliedCore {
         Sight {
             handover: Recorded::sight(&self.core),
             counts: *self.counts(),
+            refused_names: *self.refused_names(),
             load: load_of(&self.core),
         }
     }
@@ -143,7 +165,7 @@ impl Recorded for TalliedCore {
         let concern = concern_of(&self.core, &event);
         let result = Recorded::turn(&mut self.core, pass, event);
         if let Ok(_) = &result {
-            count_last(self.core.journal(), &mut self.counts);
+            count_last(self.core.journal(), &mut self.counts, &mut self.names);
             self.teller.tell(&self.core, concern);
         }
         result
@@ -167,6 +189,13 @@ fn counts_of_nothing() -> Counts
     Counts::NONE
 }
 
+// The names of no steps.
+fn no_refused_names() -> RefusedNames
+    ensures { result ≡ no_names }
+{
+    RefusedNames::NONE
+}
+
 // `None`: there is no memory, and the value is dropped.
 fn boxed<T: Drop>(alloc: Global, value: T) -> Option<Box<T>>
     ensures { IfSome result (λ b. b.value ≡ value) }
@@ -180,11 +209,14 @@ fn boxed<T: Drop>(alloc: Global, value: T) -> Option<Box<T>>
     }
 }
 
-fn count_last(journal: &Journal<Event, Answer>, counts: &mut Counts)
-    ensures { (steps : List StepOf) (step : StepOf) → journal.now.steps ≡ steps ++ step ∷ []
+fn count_last(journal: &Journal<Event, Answer>, counts: &mut Counts, names: &mut RefusedNames)
+    ensures counts { (steps : List StepOf) (step : StepOf) → journal.now.steps ≡ steps ++ step ∷ []
         → HasCounted counts.old step counts.new }
+    ensures names { (steps : List StepOf) (step : StepOf) → journal.now.steps ≡ steps ++ step ∷ []
+        → names.new ≡ noted_in names.old step }
 {
     if let Some(step) = journal.last() {
         counts.add(step);
+        names.note_refused(step);
     }
 }

@@ -33,6 +33,8 @@ mod payload_texts;
 #[cfg(test)]
 mod refusal_tests;
 #[cfg(test)]
+mod refused_names;
+#[cfg(test)]
 mod rig;
 #[cfg(test)]
 mod spelled_commands;

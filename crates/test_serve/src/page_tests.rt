@@ -8,7 +8,7 @@ use limits::MAX_HOSTS;
 use proxy_histogram::Histogram;
 use proxy_pages::{About, Admin, LineHosts, Look, MAX_LINES_SHOWN, ProcessUse, Snapshot};
 use proxy_serve_core::{HostFaults, RefusedSockets};
-use proxy_stats::Counts;
+use proxy_stats::{Counts, RefusedNames};
 use std::alloc::Global;
 use std::str;
 use std::test::Fail;
@@ -48,6 +48,7 @@ fn snapshot() -> Snapshot {
     }
     Snapshot {
         counts: Counts::NONE,
+        refused_names: RefusedNames::NONE,
         generations: 1,
         past_steps: 0,
         serving: Look::NONE,

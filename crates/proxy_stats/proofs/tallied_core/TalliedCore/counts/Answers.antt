@@ -10,11 +10,11 @@ pub returns-clause-sums : goal.returns-clause-sums
 returns-clause-sums c =
     let k = c.self.inside.core in
     let n = c.self.inside.counts.value in
-    let sums : AreCounts k.steps n = kept_sums k n c.journal-journal.ensures.legal c.self.invariant in
+    let sums : AreCounts k.steps n = kept_sums k n c.journal-journal.ensures.legal c.self.invariant.counts in
     subst (λ (j : Proxy). AreCounts j.steps c.deref.result.now) c.self.view_is (subst (λ (m : Counts). AreCounts k.steps m) (sym c.deref.ensures) sums)
 
 pub returns-clause-value : goal.returns-clause-value
 returns-clause-value c =
     c.deref.ensures
-    ∙ kept_value c.self.inside.core c.self.inside.counts.value c.journal-journal.ensures.legal c.self.invariant
+    ∙ kept_value c.self.inside.core c.self.inside.counts.value c.journal-journal.ensures.legal c.self.invariant.counts
     ∙ ap (λ (j : Proxy). counts_of j.steps) c.self.view_is

@@ -10,4 +10,4 @@ returns c =
     c.sight.ensures ∙ ap (λ (k : Proxy). handover_of (made_with k) (journal_of k)) c.self.view_is in
     let load : c.load_of.result ≡ load_of c.args.self.now.setting (history_in c.args.self.now) =
     c.load_of.ensures ∙ ap (λ (k : Proxy). load_of k.setting (history_in k)) c.self.view_is in
-    λ i. record { handover = handover i; counts = c.counts.ensures.value i; load = load i }
+    λ i. record { handover = handover i; counts = c.counts.ensures.value i; refused_names = c.refused_names.ensures.value i; load = load i }
