@@ -136,13 +136,13 @@ return_text name host now (Some ejected) = fault_text name host (reason_word eje
 
 -- the same of each host that is
 abbrev pub returns_text : About → Snapshot → List ℕ → List ℕ
-returns_text about s name = each (host_count about) (λ i. return_text name (host_name about i) s.moment (get_or s.ejected i None))
+returns_text about s name = each (host_count about) (λ i. return_text name (host_name about i) s.ejected.moment (get_or s.ejected.hosts i None))
 
 -- the bytes that went this way, at sockets of clients and at links to hosts
 abbrev pub peers_text : List ℕ → Snapshot → Way → List ℕ
 peers_text name s way =
-    labelled_text name (codes "peer") (codes "clients") (moved_number way s.clients_moved)
-    ++ labelled_text name (codes "peer") (codes "hosts") (moved_number way s.hosts_moved)
+    labelled_text name (codes "peer") (codes "clients") (moved_number way s.moved.clients)
+    ++ labelled_text name (codes "peer") (codes "hosts") (moved_number way s.moved.hosts)
 
 -- how many values were at most each bound
 abbrev pub bounds_text : List ℕ → Histogram → List ℕ

@@ -20,4 +20,6 @@ mod snapshot;
 pub use admin::Admin;
 pub use delay::MAX_DRAIN_AFTER_MS;
 pub use reply::Order;
-pub use snapshot::{About, LineHosts, Look, MAX_LINES_SHOWN, Moved, ProcessUse, Snapshot};
+pub use snapshot::{
+    About, EjectedHosts, LineHosts, Look, MAX_LINES_SHOWN, Moved, MovedBytes, ProcessUse, Snapshot,
+};

@@ -253,13 +253,14 @@ fn push_returns(
     ensures { OnOk result (page.new.items ≡ page.old.items
         ++ returns_text about.now snapshot.now name.now) }
 {
+    let ejected = &snapshot.ejected;
     for i in 0..about.host_count() {
         push_return(
             page,
             name,
             about.host_name(i),
-            snapshot.moment,
-            snapshot.ejected[i],
+            ejected.moment,
+            ejected.hosts[i],
         )?;
     }
     Ok(())
@@ -291,8 +292,8 @@ fn push_peers(
     ensures { OnOk result (page.new.items ≡ page.old.items
         ++ peers_text name.now snapshot.now way) }
 {
-    let clients = way.of(&snapshot.clients_moved);
-    let hosts = way.of(&snapshot.hosts_moved);
+    let clients = way.of(&snapshot.moved.clients);
+    let hosts = way.of(&snapshot.moved.hosts);
     push_labelled(page, name, "peer", "clients", clients)?;
     push_labelled(page, name, "peer", "hosts", hosts)
 }

@@ -1,5 +1,5 @@
 //! The numbers behind the pages.
-ghost use Rattle.std.specs.Prelude.{◌≡◌, ◌≤◌, ◌<◌};
+ghost use Rattle.std.specs.Prelude.{◌≡◌, ◌≤◌, ◌<◌, None, replicate};
 ghost use Rattle.proxy_pages.specs.Numbers.{is_out_in, lines_shown};
 
 use limits::MAX_HOSTS;
@@ -79,7 +79,7 @@ impl LineHosts {
     };
 }
 
-/// The bytes that sockets have moved.
+/// The bytes that some sockets have moved.
 #[derive(Clone, Copy, Debug, PartialEq, Eq)]
 pub struct Moved {
     /// Those read from them.
@@ -89,12 +89,50 @@ pub struct Moved {
     pub written: u64,
 }
 
-impl Moved {
+/// The bytes that all sockets have moved.
+#[derive(Clone, Copy, Debug, PartialEq, Eq)]
+pub struct MovedBytes {
+    /// Those of clients.
+    pub clients: Moved,
+
+    /// Those of the links to hosts.
+    pub hosts: Moved,
+}
+
+impl MovedBytes {
     /// None.
-    pub const NONE: Moved = Moved {
-        read: 0,
-        written: 0,
+    pub const NONE: MovedBytes = MovedBytes {
+        clients: Moved {
+            read: 0,
+            written: 0,
+        },
+        hosts: Moved {
+            read: 0,
+            written: 0,
+        },
     };
+}
+
+/// The hosts that are put aside at a moment.
+#[derive(Clone, Copy, Debug, PartialEq, Eq)]
+pub struct EjectedHosts {
+    /// The moment, in milliseconds.
+    pub moment: u64,
+
+    /// Each host that a line has put aside, by its number; of several lines the one that has it back first.
+    pub hosts: [Option<EjectedHost>; MAX_HOSTS],
+}
+
+impl EjectedHosts {
+    /// None is, at this moment.
+    pub fn none(moment: u64) -> EjectedHosts
+        ensures { result ≡ record { moment = moment; hosts = replicate MAX_HOSTS None } }
+    {
+        EjectedHosts {
+            moment,
+            hosts: [None; MAX_HOSTS],
+        }
+    }
 }
 
 /// What the process uses, as the system tells it; 0 where it doesn't.
@@ -159,17 +197,11 @@ pub struct Snapshot {
     /// The sockets of clients that found no room.
     pub refused: RefusedSockets,
 
-    /// The bytes of the sockets of clients.
-    pub clients_moved: Moved,
+    /// The bytes that sockets have moved.
+    pub moved: MovedBytes,
 
-    /// The bytes of the links to hosts.
-    pub hosts_moved: Moved,
-
-    /// The moment of this snapshot, in milliseconds.
-    pub moment: u64,
-
-    /// Each host that a line has put aside, by its number; of several lines the one that has it back first.
-    pub ejected: [Option<EjectedHost>; MAX_HOSTS],
+    /// Which hosts are put aside, and why.
+    pub ejected: EjectedHosts,
 
     /// The faults of each host's links, by its number, over all generations.
     pub faults: [HostFaults; MAX_HOSTS],

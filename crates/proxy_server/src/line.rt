@@ -383,14 +383,15 @@ impl<C: Drop> Line<C> {
     fn add_ejected<R: Wait>(&self, rt: &R, all: &mut Snapshot) {
         let ejections = self.ejections.lock(rt);
         for host in 0..MAX_HOSTS {
-            all.ejected[host] = EjectedHost::first(all.ejected[host], ejections.ejected(host));
+            let ejected = &mut all.ejected.hosts[host];
+            *ejected = EjectedHost::first(*ejected, ejections.ejected(host));
         }
     }
 
     fn add_traffic(&self, all: &mut Snapshot) {
         for queue in self.queues.iter() {
-            add_moved(&mut all.clients_moved, &queue.traffic.clients);
-            add_moved(&mut all.hosts_moved, &queue.traffic.hosts);
+            add_moved(&mut all.moved.clients, &queue.traffic.clients);
+            add_moved(&mut all.moved.hosts, &queue.traffic.hosts);
         }
     }
 

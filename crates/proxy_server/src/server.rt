@@ -5,12 +5,12 @@ use crate::process::{Extent, Process};
 use crate::stop::Stop;
 use crossbeam_utils::CachePadded;
 use fresh_stream::FreshStream;
-use limits::{MAX_HOSTS, MAX_SOCKETS};
+use limits::MAX_SOCKETS;
 use mio::Waker;
 use open_sockets::{AdmittedStream, NotAdmitted};
 use proxy_config::Config;
 use proxy_histogram::Histogram;
-use proxy_pages::{LineHosts, MAX_LINES_SHOWN, Moved, ProcessUse, Snapshot};
+use proxy_pages::{EjectedHosts, LineHosts, MAX_LINES_SHOWN, MovedBytes, ProcessUse, Snapshot};
 use proxy_serve_core::{DrainOrder, SocketRefusal};
 use proxy_stats::{Counts, RefusedNames};
 use std::alloc::Global;
@@ -200,10 +200,8 @@ impl<C: Drop> Server<C> {
             refused: *self.process.refused.lock(rt),
             faults: *self.process.faults.lock(rt).hosts(),
             host_durations: *self.process.host_durations.lock(rt).hosts(),
-            clients_moved: Moved::NONE,
-            hosts_moved: Moved::NONE,
-            moment,
-            ejected: [None; MAX_HOSTS],
+            moved: MovedBytes::NONE,
+            ejected: EjectedHosts::none(moment),
             lines: self.lines.len(),
             line_hosts: [LineHosts::NONE; MAX_LINES_SHOWN],
             durations: Histogram::new(),

@@ -6,7 +6,9 @@ use http::Request;
 use http_server::{Response, Service};
 use limits::MAX_HOSTS;
 use proxy_histogram::Histogram;
-use proxy_pages::{About, Admin, LineHosts, Look, MAX_LINES_SHOWN, ProcessUse, Snapshot};
+use proxy_pages::{
+    About, Admin, EjectedHosts, LineHosts, Look, MAX_LINES_SHOWN, MovedBytes, ProcessUse, Snapshot,
+};
 use proxy_serve_core::{HostFaults, RefusedSockets};
 use proxy_stats::{Counts, RefusedNames};
 use std::alloc::Global;
@@ -57,6 +59,8 @@ fn snapshot() -> Snapshot {
         connections: 0,
         closed: 0,
         idle_closed: 0,
+        moved: MovedBytes::NONE,
+        ejected: EjectedHosts::none(0),
         refused: RefusedSockets::NONE,
         faults: [HostFaults::NONE; MAX_HOSTS],
         host_durations: [Histogram::new(); MAX_HOSTS],
