@@ -1,0 +1,24 @@
+"""RQ: a job is queued, and a worker looks for one."""
+from told import PORT, Program, feature, plain
+
+import redis
+from rq import Queue
+
+
+def queued():
+    Queue(connection=redis.Redis(port=PORT)).enqueue("time.sleep", 0)
+    return plain().llen("rq:queue:default")
+
+
+def worked():
+    """What a worker says of the job, with its status."""
+    plain().delete("rq:queue:default")
+    with Program("/usr/bin/rq", "worker", "--burst", "--url", f"redis://127.0.0.1:{PORT}") as worker:
+        said = worker.ended()
+    if worker.process.returncode:
+        raise RuntimeError(said.strip().splitlines()[-1])
+    return 0
+
+
+feature("enqueue", queued, 1, left=lambda: plain().llen("rq:queue:default"))
+feature("worker", worked, 0, left=lambda: plain().scard("rq:workers"))

@@ -1,0 +1,19 @@
+# Sidekiq: a job is pushed, and a worker looks for one. This file is the worker's application too.
+require "sidekiq"
+
+class Job
+  include Sidekiq::Worker
+  def perform(*) = nil
+end
+
+if ARGV[0].to_i.positive?
+  require_relative "told"
+  require "json"
+  Sidekiq.configure_client { |config| config.redis = { url: ADDRESS, reconnect_attempts: 0 } }
+  feature("push", [1, [5]]) { Job.perform_async(5) && [plain.llen("queue:default"), JSON.parse(plain.lindex("queue:default", 0))["args"]] }
+  feature("schedule", 1) { Job.perform_in(60, 6) && plain.zcard("schedule") }
+  feature("worker", "") do
+    said = IO.popen({ "REDIS_URL" => ADDRESS }, ["timeout", "15", "sidekiq", "-r", __FILE__, "-c", "1", err: %i[child out]], &:read)
+    said.lines.grep(/Error|unsupported|closed/).first.to_s
+  end
+end
