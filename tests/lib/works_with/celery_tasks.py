@@ -1,5 +1,6 @@
 """Celery: a task is sent, and a worker looks for one. This file is the worker's application too."""
 import os
+import re
 import sys
 
 import celery
@@ -22,14 +23,14 @@ if __name__ == "__main__":
         return plain().llen("celery")
 
     def worked():
-        """What a worker ends with, which should go on until it is killed."""
-        words = ("-m", "celery", "-A", "celery_tasks", "worker", "--concurrency", "1", "--pool", "solo", "--without-gossip", "--without-mingle")
+        """What a worker tells of the task that was sent, until it is killed."""
+        words = ("-m", "celery", "-A", "celery_tasks", "worker", "--concurrency", "1", "--pool", "solo", "--loglevel", "info")
         with Program("/usr/bin/python3", *words, env={**os.environ, "BROKER_PORT": PORT}, cwd=os.path.dirname(__file__)) as worker:
-            said = worker.ended(12)
+            said = worker.ended(8)
         errors = [line for line in said.splitlines() if "Error: " in line or "CRITICAL" in line]
         if errors:
             raise RuntimeError(errors[-1].strip())
-        return "goes on"
+        return re.findall(r"succeeded in \S+: (\d+)", said)
 
     feature("send", sent, 1, left=lambda: plain().llen("celery"))
-    feature("worker", worked, "goes on")
+    feature("worker", worked, ["3"])

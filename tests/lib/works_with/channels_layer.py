@@ -11,7 +11,7 @@ MESSAGE = {"type": "x", "n": 1}
 async def sent(receives):
     layer = RedisChannelLayer(hosts=[("127.0.0.1", PORT)])
     await asyncio.wait_for(layer.send("channel", MESSAGE), 5)
-    return await asyncio.wait_for(layer.receive("channel"), 5) if receives else plain().zcard("asgi:channel")
+    return await asyncio.wait_for(layer.receive("channel"), 5) if receives else plain().zcard("asgichannel")
 
 
 feature("send", lambda: asyncio.run(sent(False)), 1)

@@ -8,11 +8,11 @@ app = Flask("caches")
 app.app_context().push()
 
 
-def cache_at(database="", **config):
-    return Cache(app, config={"CACHE_TYPE": "RedisCache", "CACHE_REDIS_URL": f"redis://127.0.0.1:{PORT}{database}", **config})
+def cache_at(database=""):
+    return Cache(app, config={"CACHE_TYPE": "RedisCache", "CACHE_REDIS_URL": f"redis://127.0.0.1:{PORT}{database}"})
 
 
-cache, prefixed, other = cache_at(), cache_at(CACHE_KEY_PREFIX="p:"), cache_at("/1")
+cache, other = cache_at(), cache_at("/1")
 calls = []
 
 
@@ -29,6 +29,4 @@ feature("set_many, get_many", lambda: (cache.set_many({"c": 3, "d": 4}), cache.g
 feature("delete_many", lambda: (cache.delete_many("c", "d"), cache.get_many("c", "d"))[1], [None, None])
 feature("memoize", lambda: (doubled(2), doubled(2), cache.delete_memoized(doubled), doubled(2), calls), (4, 4, None, 4, [2, 2]))
 feature("clear", cache.clear, True, left=lambda: cache.get("a") is None)
-feature("clear with a prefix", lambda: (prefixed.set("e", 1), prefixed.clear(), prefixed.get("e")), (True, True, None),
-        left=lambda: prefixed.get("e") is None)
-feature("database 1", lambda: (other.set("f", 1), other.get("f")), (True, 1), left=lambda: cache.get("f"))
+feature("database 1", lambda: (other.set("f", 1), other.get("f")), (True, 1), left=lambda: plain().exists("flask_cache_f"))

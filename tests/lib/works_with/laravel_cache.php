@@ -10,7 +10,7 @@ use Illuminate\Redis\RedisManager;
 function store($driver, $rest = [])
 {
     global $port;
-    return new RedisStore(new RedisManager(null, $driver, ["default" => ["host" => "127.0.0.1", "port" => $port, ...$rest]]), "laravel:");
+    return new RedisStore(new RedisManager(null, $driver, ["default" => ["host" => "127.0.0.1", "port" => $port, ...$rest]]), "laravel");
 }
 
 $cache = store("phpredis");

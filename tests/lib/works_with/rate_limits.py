@@ -8,7 +8,8 @@ RATE = parse("2/hour")
 
 
 def hits(strategy, user):
-    limiter = getattr(strategies, strategy)(storage.storage_from_string(f"redis://127.0.0.1:{PORT}"))
+    kept = storage.storage_from_string(f"redis://127.0.0.1:{PORT}")
+    limiter = getattr(strategies, strategy)(kept)
     found = [limiter.hit(RATE, user) for _ in range(3)]
     return found, limiter.get_window_stats(RATE, user)[1]
 

@@ -23,14 +23,17 @@ class Page(http.server.BaseHTTPRequestHandler):
         pass
 
 
+server = http.server.HTTPServer(("127.0.0.1", 0), Page)
+threading.Thread(target=server.serve_forever, daemon=True).start()
+ADDRESS = f"http://127.0.0.1:{server.server_port}/"
+session = requests_cache.CachedSession(backend=requests_cache.RedisCache("pages", connection=redis.Redis(port=PORT)))
+
+
 def visits():
-    server = http.server.HTTPServer(("127.0.0.1", 0), Page)
-    threading.Thread(target=server.serve_forever, daemon=True).start()
-    address = f"http://127.0.0.1:{server.server_port}/"
-    found = [session.get(address) for _ in range(2)]
+    found = [session.get(ADDRESS) for _ in range(2)]
     return [one.from_cache for one in found], [one.content for one in found], asked
 
 
-session = requests_cache.CachedSession(backend=requests_cache.RedisCache("pages", connection=redis.Redis(port=PORT)))
 feature("requests", visits, ([False, True], [b"x", b"x"], ["/"]))
-feature("clear", lambda: (session.cache.clear(), len(session.cache.responses)), (None, 0))
+feature("clear", lambda: (session.cache.clear(), session.get(ADDRESS).from_cache), (None, False),
+        left=lambda: not session.get(ADDRESS).from_cache)

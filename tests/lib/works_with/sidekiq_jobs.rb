@@ -12,8 +12,10 @@ if ARGV[0].to_i.positive?
   Sidekiq.configure_client { |config| config.redis = { url: ADDRESS, reconnect_attempts: 0 } }
   feature("push", [1, [5]]) { Job.perform_async(5) && [plain.llen("queue:default"), JSON.parse(plain.lindex("queue:default", 0))["args"]] }
   feature("schedule", 1) { Job.perform_in(60, 6) && plain.zcard("schedule") }
-  feature("worker", "") do
-    said = IO.popen({ "REDIS_URL" => ADDRESS }, ["timeout", "15", "sidekiq", "-r", __FILE__, "-c", "1", err: %i[child out]], &:read)
-    said.lines.grep(/Error|unsupported|closed/).first.to_s
+  feature("worker", 0) do
+    said = IO.popen({ "REDIS_URL" => ADDRESS }, ["timeout", "8", "sidekiq", "-r", __FILE__, "-c", "1", err: %i[child out]], &:read)
+    error = said.lines.grep(/Error|unsupported/).first
+    raise error if error
+    plain.llen("queue:default")
   end
 end

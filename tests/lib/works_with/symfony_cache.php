@@ -20,7 +20,7 @@ feature("getItems", fn() => array_map(fn($item) => $item->get(), iterator_to_arr
 feature("saveDeferred, commit", fn() => kept($cache, ["d1", "d2", "d3"]), [true, "of d1", "of d2", "of d3"]);
 feature("deleteItems", fn() => [$cache->deleteItems(["d1", "d2"]), $cache->hasItem("d1")], [true, false]);
 feature("clear", fn() => $cache->clear(), true, fn() => !$cache->hasItem("d3"));
-feature("get after clear", fn() => [$cache->getItem("k")->get(), $cache->getItem("d3")->get()], [5, "of d3"]);
+feature("save, get after clear", fn() => kept($cache, ["u1", "u2", "u3"]), [true, "of u1", "of u2", "of u3"]);
 feature("database 1", function () use ($port) {
     $other = new RedisAdapter(RedisAdapter::createConnection("redis://127.0.0.1:$port/1"), "names");
     return [$other->save($other->getItem("other")->set(1)), $other->getItem("other")->get()];

@@ -22,11 +22,19 @@ def answer(path):
         return str(problem)
 
 
+def checked(text):
+    """An answer that tells of no error."""
+    if "[false," in text:
+        raise RuntimeError(text)
+    return text
+
+
 with tempfile.TemporaryDirectory() as room:
     file = os.path.join(room, "webdis.json")
     with open(file, "w", encoding="utf-8") as out:
         json.dump(SETTINGS, out)
     with Program("webdis", file):
-        awaited(lambda: answer("PING.txt"), "PONG")
-        feature("commands of keys", lambda: (answer("SET/key/value.txt"), answer("GET/key.txt"), plain().get("key")), ("OK", "value", b"value"))
-        feature("PUBLISH", lambda: answer("PUBLISH/channel/text"), '{"PUBLISH":0}')
+        awaited(lambda: answer("PING.txt"), "+PONG")
+        feature("commands of keys", lambda: (answer("SET/key/value.txt"), answer("GET/key.txt"), plain().get("key")),
+                ("+OK", "value", b"value"))
+        feature("PUBLISH", lambda: checked(answer("PUBLISH/channel/text")), '{"PUBLISH":0}')

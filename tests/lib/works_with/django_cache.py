@@ -47,7 +47,7 @@ feature("set_many", lambda: (cache.set_many({"m1": 1, "m2": 2}), cache.get_many(
         left=lambda: plain().exists(":1:m1", ":1:m2"))
 feature("keys", lambda: cache.keys("once"), ["once"])
 feature("delete_pattern", lambda: cache.delete_pattern("onc*"), 1, left=lambda: not plain().exists(":1:once"))
-feature("clear", cache.clear, True, left=lambda: not plain().exists(":1:once"))
+feature("clear", lambda: (cache.clear(), cache.get("once")), (None, None), left=lambda: not plain().exists(":1:once"))
 feature("lock", locked, 1, left=lambda: plain().exists(":1:lock"))
 plain().delete(":1:lock")
 load(Lock.LUA_RELEASE_SCRIPT)
