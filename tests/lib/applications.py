@@ -50,8 +50,8 @@ def passing(*names):
     return {name: PASS for name in names}
 
 
-# Each application: its name, its package, its script, and what is due of each feature, without `--close-behind` and with it where that
-# differs.
+# Each application: its name, its package, its script, and what is due of each feature; a pair is of the runs without
+# `--close-behind` and with it.
 APPLICATIONS = (
     ("ccache", "ccache", "ccache.sh", passing("remote storage")),
     ("webdis", "webdis", "webdis.py", {**passing("commands of keys"), "PUBLISH": refused("PUBLISH")}),

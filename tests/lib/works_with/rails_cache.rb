@@ -19,7 +19,9 @@ end
 
 feature("write, read", [true, { x: 1 }]) { told { [!!CACHE.write("a", { x: 1 }, expires_in: 60), CACHE.read("a")] } }
 feature("fetch", [5, 5]) { told { [CACHE.fetch("f") { 5 }, CACHE.fetch("f") { 6 }] } }
-feature("write_multi, read_multi", { "b" => 1, "c" => 2 }) { told { CACHE.write_multi({ "b" => 1, "c" => 2 }) && CACHE.read_multi("b", "c", "none") } }
+feature("write_multi, read_multi", { "b" => 1, "c" => 2 }) do
+  told { CACHE.write_multi({ "b" => 1, "c" => 2 }) && CACHE.read_multi("b", "c", "none") }
+end
 feature("fetch_multi", { "b" => 1, "q" => "Q" }) { told { CACHE.fetch_multi("b", "q") { |key| key.upcase } } }
 feature("increment", [1, 3]) { told { [CACHE.increment("n", 1, expires_in: 60), CACHE.increment("n", 2)] } }
 feature("delete, delete_multi", [true, 1, false]) { told { [!!CACHE.delete("b"), CACHE.delete_multi(["c"]), CACHE.exist?("c")] } }

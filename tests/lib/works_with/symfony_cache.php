@@ -16,7 +16,8 @@ function kept($cache, $keys)
 }
 
 feature("get, save", fn() => [$cache->get("k", fn() => 5), $cache->get("k", fn() => 6)], [5, 5]);
-feature("getItems", fn() => array_map(fn($item) => $item->get(), iterator_to_array($cache->getItems(["k", "none"]))), ["k" => 5, "none" => null]);
+feature("getItems", fn() => array_map(fn($item) => $item->get(), iterator_to_array($cache->getItems(["k", "none"]))),
+        ["k" => 5, "none" => null]);
 feature("saveDeferred, commit", fn() => kept($cache, ["d1", "d2", "d3"]), [true, "of d1", "of d2", "of d3"]);
 feature("deleteItems", fn() => [$cache->deleteItems(["d1", "d2"]), $cache->hasItem("d1")], [true, false]);
 feature("clear", fn() => $cache->clear(), true, fn() => !$cache->hasItem("d3"));
