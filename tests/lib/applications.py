@@ -54,7 +54,7 @@ def passing(*names):
 # `--close-behind` and with it.
 APPLICATIONS = (
     ("ccache", "ccache", "ccache.sh", passing("remote storage")),
-    ("webdis", "webdis", "webdis.py", {**passing("commands of keys"), "PUBLISH": refused("PUBLISH")}),
+    ("webdis", "webdis", "webdis.py", {**passing("commands of keys"), "messages": refused("PUBLISH")}),
     ("rsyslog omhiredis", "rsyslog-hiredis", "rsyslog.py", passing("lists", "commands")),
     ("phpredis sessions", "php-redis", "php_sessions.php", passing("sessions", "sessions with locks")),
     ("django-redis-sessions", "python3-django-redis-sessions", "django_redis_sessions.py", passing("sessions")),
@@ -86,7 +86,8 @@ APPLICATIONS = (
     ("dogpile.cache", "python3-dogpile.cache", "dogpile_cache.py",
      {**passing("set, get", "set_multi, get_multi", "delete_multi", "get_or_create", "set, get with expiry",
                 "distributed lock, script loaded"),
-      "set_multi with expiry": TRANSACTION, "distributed lock": refused("SCRIPT", "half", "stays locked"), "database 1": refused("SELECT")}),
+      "set_multi with expiry": TRANSACTION, "distributed lock": refused("SCRIPT", "half", "stays locked"),
+      "database 1": refused("SELECT")}),
     ("limits", "python3-limits", "rate_limits.py",
      {**passing("elastic window", "fixed window, script loaded", "moving window, script loaded"), "fixed window": refused("SCRIPT"),
       "moving window": refused("SCRIPT")}),

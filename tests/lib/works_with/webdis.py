@@ -37,4 +37,4 @@ with tempfile.TemporaryDirectory() as room:
         awaited(lambda: answer("PING.txt"), "+PONG")
         feature("commands of keys", lambda: (answer("SET/key/value.txt"), answer("GET/key.txt"), plain().get("key")),
                 ("+OK", "value", b"value"))
-        feature("PUBLISH", lambda: checked(answer("PUBLISH/channel/text")), '{"PUBLISH":0}')
+        feature("messages", lambda: checked(answer("PUBLISH/channel/text")), '{"PUBLISH":0}')
