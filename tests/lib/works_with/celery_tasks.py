@@ -16,17 +16,18 @@ def add(one, other):
 
 
 if __name__ == "__main__":
-    from told import Program, feature, plain
+    from told import Program, awaited, feature, plain
 
     def sent():
         add.apply_async((1, 2), retry=False)
         return plain().llen("celery")
 
     def worked():
-        """What a worker tells of the task that was sent, until it is killed."""
+        """The results that a worker tells of."""
         words = ("-m", "celery", "-A", "celery_tasks", "worker", "--concurrency", "1", "--pool", "solo", "--loglevel", "info")
         with Program("/usr/bin/python3", *words, env={**os.environ, "BROKER_PORT": PORT}, cwd=os.path.dirname(__file__)) as worker:
-            said = worker.ended(8)
+            awaited(lambda: worker.has_ended() or "succeeded" in worker.said(), True)
+            said = worker.said()
         errors = [line for line in said.splitlines() if "Error: " in line or "CRITICAL" in line]
         if errors:
             raise RuntimeError(errors[-1].strip())

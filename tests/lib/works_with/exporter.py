@@ -7,7 +7,7 @@ from harness import free_port
 
 
 def up():
-    """What it tells of the server, and what it says."""
+    """Whether it finds the server, else what it tells and says of it."""
     port = free_port()
     words = ("prometheus-redis-exporter", "-redis.addr", f"redis://127.0.0.1:{PORT}", "-web.listen-address", f"127.0.0.1:{port}")
     with Program(*words) as exporter:
@@ -19,8 +19,8 @@ def up():
                 return ""
         awaited(lambda: bool(page()), True)
         lines = page().splitlines()
-    if "redis_up 1" not in lines:
-        raise RuntimeError("; ".join(line for line in lines if line.startswith("redis_exporter_last_scrape_error{")) + exporter.said)
+        if "redis_up 1" not in lines:
+            raise RuntimeError("; ".join(line for line in lines if line.startswith("redis_exporter_last_scrape_error{")) + exporter.said())
     return "redis_up 1"
 
 

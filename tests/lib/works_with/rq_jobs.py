@@ -1,5 +1,5 @@
 """RQ: a job is queued, and a worker looks for one."""
-from told import PORT, Program, feature, plain
+from told import PORT, Program, awaited, feature, plain
 
 import redis
 from rq import Queue
@@ -11,11 +11,11 @@ def queued():
 
 
 def worked():
-    """How many jobs a worker leaves."""
+    """How many jobs a worker leaves there."""
     with Program("/usr/bin/rq", "worker", "--burst", "--url", f"redis://127.0.0.1:{PORT}") as worker:
-        said = worker.ended()
-    if worker.process.returncode:
-        raise RuntimeError(said.strip().splitlines()[-1])
+        awaited(worker.has_ended, True)
+        if worker.process.returncode:
+            raise RuntimeError(worker.said().strip().splitlines()[-1])
     return plain().llen("rq:queue:default")
 
 

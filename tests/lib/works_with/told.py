@@ -4,8 +4,10 @@ A script is told the port of what stands for one Redis server, and behind it tho
 the right value. 'fail FEATURE: ERROR' is one that didn't, as its user sees it; 'half FEATURE: ERROR' one of which something was
 carried out all the same.
 """
+import os
 import subprocess
 import sys
+import tempfile
 import time
 
 import redis
@@ -56,27 +58,25 @@ def awaited(work, wanted, seconds=PATIENCE):
 
 
 class Program:
-    """A program that runs meanwhile, and what it says."""
+    """A program that runs meanwhile."""
 
     def __init__(self, *words, **rest):
-        self.words, self.rest, self.said = words, rest, ""
+        self.words, self.rest = words, rest
 
     def __enter__(self):
-        self.process = subprocess.Popen(self.words, stdin=subprocess.DEVNULL, stdout=subprocess.PIPE, stderr=subprocess.STDOUT, text=True,
-                                        **self.rest)
+        self.out = tempfile.TemporaryFile()
+        self.process = subprocess.Popen(self.words, stdin=subprocess.DEVNULL, stdout=self.out, stderr=subprocess.STDOUT, **self.rest)
         return self
 
     def __exit__(self, *_):
         self.process.kill()
-        self.ended()
+        self.process.wait()
+        self.out.close()
 
-    def ended(self, seconds=PATIENCE):
-        """All that it said, once it ended by itself."""
-        try:
-            self.said += self.process.communicate(timeout=seconds)[0]
-        except subprocess.TimeoutExpired:
-            self.process.kill()
-            self.said += self.process.communicate()[0]
-        except ValueError:
-            pass
-        return self.said
+    def said(self):
+        """All that it said so far."""
+        return os.pread(self.out.fileno(), 1 << 20, 0).decode()
+
+    def has_ended(self):
+        """Whether it ended by itself."""
+        return self.process.poll() is not None
