@@ -78,7 +78,7 @@ APPLICATIONS = (
       "clear": fails("returns false", "false is not true"), "database 1": refused("SELECT")}),
     ("Laravel cache", "php-illuminate-cache", "laravel_cache.php",
      {**passing("put, get", "many", "add", "increment", "lock", "forget"), "putMany": refused("MULTI"), "flush": refused("FLUSHDB"),
-      "database 0": refused("SELECT")}),
+      "database 0, its default": refused("SELECT")}),
     ("django-redis", "python3-django-redis", "django_cache.py",
      {**passing("set, get", "add", "get_many", "delete_many", "incr", "touch, ttl", "get_or_set", "sessions", "lock, script loaded"),
       "set_many": TRANSACTION, "keys": refused("KEYS"), "delete_pattern": refused("SCAN"), "clear": refused("FLUSHDB"),

@@ -23,5 +23,5 @@ feature("forget", fn() => [$cache->forget("a"), $cache->get("a")], [true, null])
 feature("putMany", fn() => [$cache->putMany(["c" => "3", "d" => "4"], 60), $cache->many(["c", "d"])], [true, ["c" => "3", "d" => "4"]],
         fn() => plain()->exists("laravel:c", "laravel:d"));
 feature("flush", fn() => store("phpredis")->flush(), true, fn() => !plain()->exists("laravel:b"));
-feature("database 0", fn() => [store("phpredis", ["database" => 0])->put("e", "5", 60), store("phpredis")->get("e")], [true, "5"],
+feature("database 0, its default", fn() => [store("phpredis", ["database" => 0])->put("e", "5", 60), store("phpredis")->get("e")], [true, "5"],
         fn() => plain()->exists("laravel:e"));

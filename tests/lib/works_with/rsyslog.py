@@ -1,4 +1,4 @@
-"""rsyslog's omhiredis: lines of a log as members of a list, as values of keys, and as messages of a channel."""
+"""rsyslog's omhiredis: lines of a log as members of a list, and as values of a key."""
 import os
 import socket
 import tempfile
