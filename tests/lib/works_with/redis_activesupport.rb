@@ -9,4 +9,4 @@ feature("fetch", [5, 5]) { [cache.fetch("f") { 5 }, cache.fetch("f") { 6 }] }
 feature("read_multi", { "a" => { x: 1 }, "f" => 5 }) { cache.read_multi("a", "f", "none") }
 feature("increment", [1, 3]) { [cache.increment("n"), cache.increment("n", 2)] }
 feature("delete", [1, nil]) { [cache.delete("a"), cache.read("a")] }
-feature("clear", nil, left: -> { !plain.exists?("f") }) { cache.clear && cache.read("f") }
+feature("clear", [true, nil], left: -> { !plain.exists?("f") }) { [!!cache.clear, cache.read("f")] }
