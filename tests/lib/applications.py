@@ -9,14 +9,14 @@ import dataclasses
 @dataclasses.dataclass
 class Due:
     """What is due of a feature: 'pass', 'fail', or 'half' where it fails and something of it is done. Of an error one of these texts is
-    due. `why` and `how` are what the table says of the error and of what is done."""
+    due, in any case, since a command's name is told as it came. `why` and `how` are what the table says of the error and of what is done."""
     kind: str
     why: str = ""
     texts: tuple = ()
     how: str = "done all the same"
 
     def is_met(self, kind, error):
-        return kind == self.kind and (kind == "pass" or any(text in error for text in self.texts))
+        return kind == self.kind and (kind == "pass" or any(text.lower() in error.lower() for text in self.texts))
 
 
 PASS = Due("pass")
