@@ -211,6 +211,24 @@ class Metered(Proxy):
         return self.number("redproxy_generations_total")
 
 
+class Twemproxy:
+    """A real twemproxy with these settings of a pool, in a folder for its files."""
+
+    def __init__(self, path, config):
+        file = os.path.join(path, "nutcracker.yml")
+        with open(file, "w", encoding="utf-8") as out:
+            out.write(config)
+        words = ["nutcracker", "-c", file, "-s", str(free_port()), "-o", os.path.join(path, "log")]
+        self.process = start(words, stdout=subprocess.DEVNULL, stderr=subprocess.DEVNULL)
+
+    def __enter__(self):
+        return self
+
+    def __exit__(self, *_):
+        self.process.kill()
+        self.process.wait()
+
+
 class Failure(str):
     """An error reply."""
 

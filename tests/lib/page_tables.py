@@ -7,6 +7,7 @@ import os
 import re
 import time
 
+import applications
 import sources
 from sources import CRATES, TOP
 
@@ -148,6 +149,22 @@ def differences_of_tests():
                 yield f"OPERATING names a test that isn't there: {name}"
 
 
+def application_rows():
+    """The rows of applications."""
+    return [row for row in rows(OPERATING, "Coming from twemproxy") if len(row) == 4 and row[0] != "Application"]
+
+
+def differences_of_applications():
+    """Each application's row has what is due of it. Its version stands behind its name."""
+    due = {name: applications.cells_of(features, applications.as_due(features)) for name, _, _, features in applications.APPLICATIONS}
+    told = {row[0].rsplit(" ", 1)[0]: row[1:] for row in application_rows()}
+    if list(due) != list(told):
+        yield f"OPERATING has rows of the applications {list(told)}, and tests/works_with runs {list(due)}"
+    for name in due.keys() & told.keys():
+        if due[name] != told[name]:
+            yield f"OPERATING's row of {name} has {told[name]}, and due is {due[name]}"
+
+
 def differences_of_speeds():
     """Each row of speeds is the last line of its own file in bench/log, with its date, and no file is without a row."""
     day = re.search(r"\d+ \w+ \d{4}", section(OPERATING, "Speed"))
@@ -204,5 +221,6 @@ CHECKS = (
     differences_of_commands,
     differences_of_tests,
     differences_of_speeds,
+    differences_of_applications,
     differences_of_crates,
 )
