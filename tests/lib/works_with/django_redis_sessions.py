@@ -4,8 +4,9 @@ from told import PORT, feature, plain
 import django
 from django.conf import settings
 
-settings.configure(SECRET_KEY="x", DATABASES={}, SESSION_ENGINE="redis_sessions.session",
-                   SESSION_REDIS={"host": "127.0.0.1", "port": PORT, "prefix": "session"})
+# (its own time limit is a tenth of a second, which a machine that does much else needs)
+REDIS = {"host": "127.0.0.1", "port": PORT, "prefix": "session", "socket_timeout": 10}
+settings.configure(SECRET_KEY="x", DATABASES={}, SESSION_ENGINE="redis_sessions.session", SESSION_REDIS=REDIS)
 django.setup()
 # pylint: disable=wrong-import-position
 from redis_sessions.session import SessionStore

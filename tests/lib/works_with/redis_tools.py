@@ -13,7 +13,7 @@ def said(*words, given=None):
 
 def benchmark(*words):
     """How many tests it told a rate of, or what it says where it told none."""
-    found = said("redis-benchmark", "-p", str(PORT), "-q", "-n", "1000", *words)
+    found = said("redis-benchmark", "-p", str(PORT), "-q", "-n", "100", *words)
     return found.count("requests per second") or found
 
 
