@@ -128,10 +128,14 @@ class Journal:
     def check_worker(self, step: Step, worker: int) -> None:
         """The steps of a worker's hosts are all of one pass, which no other worker has; -1 stands for the sweeping thread."""
         passed = step.body["pass"]
-        if self.header.workers and self.workers.setdefault(worker, passed) != passed:
+        if not self.header.workers or self.workers.get(worker) == passed:
+            return
+        if worker in self.workers:
             self.find("one_worker", f"pass {passed}", f"pass {self.workers[worker]}, which has this worker's hosts")
-        elif self.header.workers and any(other == passed for it, other in self.workers.items() if it != worker):
+        elif passed in self.workers.values():
             self.find("one_worker", f"pass {passed}, which another worker has", "a pass of its own")
+        else:
+            self.workers[worker] = passed
 
     def end(self, found: dict) -> None:
         """The last line counts the steps."""

@@ -79,6 +79,16 @@ def is_number(value: object) -> bool:
     return type(value) is int and 0 <= value <= MOST_NUMBER
 
 
+def is_moment(value: object) -> bool:
+    """A moment, or null."""
+    return value is None or type(value) is int and 0 <= value <= MOST_NUMBER
+
+
+def is_known(_: object) -> bool:
+    """A field that was looked at before its tests."""
+    return True
+
+
 def within(least: int, most: int) -> Test:
     """A whole number in a range."""
     return lambda value: type(value) is int and least <= value <= most
@@ -106,7 +116,7 @@ def optional(test: Test) -> Test:
 
 def one_of(*names: str) -> Test:
     """One of these names."""
-    return lambda value: isinstance(value, str) and value in names
+    return lambda value: value in names
 
 
 def list_of(test: Test) -> Test:
@@ -137,14 +147,20 @@ FIRST_FIELDS = {
     "opening": record_of({"clock": is_number, "hosts": list_of(record_of(HOST_FIELDS))}),
 }
 POINT = list_of(is_number)
-SOCKET_FIELDS = {
+ADDRESSED_SOCKET = {
     "number": is_number, "client": is_address, "from": optional(record_of({"generation": is_number, "conn": is_number})),
-    "commands": is_number, "rest": is_text,
+    "commands": is_number,
 }
-LINK_FIELDS = {"host": is_number, "epoch": is_number, "local": is_address}
-CARRIED_FIELDS = {"conn": is_number, "socket": is_number, "commands": is_number, "rest": is_text}
-DROPPED_FIELDS = {"socket": is_number}
-END_FIELDS = {"steps": is_number, "bytes": is_number}
+
+
+def other_fields(hashed: bool) -> dict[str, dict[str, Test]]:
+    """The fields of lines that are no steps."""
+    return {
+        "link": {"host": is_number, "epoch": is_number, "local": is_address},
+        "carried": {"conn": is_number, "socket": is_number, "commands": is_number, "rest": lambda it: is_leaf(it, hashed)},
+        "dropped": {"socket": is_number},
+        "end": {"steps": is_number, "bytes": is_number},
+    }
 
 
 def event_fields(hashed: bool) -> dict[str, dict[str, Test]]:
@@ -158,7 +174,7 @@ def event_fields(hashed: bool) -> dict[str, dict[str, Test]]:
         "value": value, "broken": lambda it: it is True, "points": list_of(within(0, 2 ** 32 - 1)),
     }
     return {
-        "Opened": {"socket": optional(record_of({**SOCKET_FIELDS, "rest": lambda it: is_leaf(it, hashed)}))},
+        "Opened": {"socket": optional(record_of({**ADDRESSED_SOCKET, "rest": lambda it: is_leaf(it, hashed)}))},
         "Arrived": {**conn, **request},
         "Finished": conn,
         "Taken": host,
@@ -190,7 +206,7 @@ def answer_fields(hashed: bool) -> dict[str, dict[str, Test]]:
 
 
 # Fields of which a step has any, or one of several.
-FREE = {"Closed": {"cut"}, "Arrived": {"points"}}
+FREE = {"Closed": frozenset({"cut"}), "Arrived": frozenset({"points"})}
 ONE_OF = {"Arrived": ("words", "value", "broken")}
 ANSWER_ONE_OF = {"Taken": ("words", "raw"), "Handed": ("value", "raw")}
-STEP_FIELDS = {"n": is_number, "at": optional(is_number), "pass": is_number, "event": is_text, "answer": lambda it: isinstance(it, dict)}
+STEP_FIELDS = {"n": is_number, "at": is_moment, "pass": is_number, "event": is_known, "answer": lambda it: isinstance(it, dict)}

@@ -1,5 +1,6 @@
 """The command line of the auditor."""
 import argparse
+import gc
 import sys
 
 from audit.findings import Finding, Findings
@@ -58,6 +59,8 @@ def main(arguments: list[str]) -> int:
     parser.add_argument("--wire", metavar="PCAP", help="a capture of the same time, whose bytes are compared")
     parser.add_argument("files", nargs="+", metavar="FILE")
     options = parser.parse_args(arguments)
+    # What a journal keeps lives to its end, so that looking for garbage only takes time.
+    gc.disable()
     try:
         found = audit_files(options.files, options.wire)
     except Unreadable as error:

@@ -1,15 +1,16 @@
 """Reads a record line by line. What can't be read is told by an `Unreadable`."""
 import json
 from collections.abc import Iterator
+from dataclasses import dataclass, field
 from pathlib import Path
 
 from audit.detection import HostState, Rules
 from audit.lines import (
-    ANSWER_ONE_OF, CARRIED_FIELDS, DROPPED_FIELDS, END_FIELDS, FIRST_FIELDS, FORMAT, FREE, LINK_FIELDS, MOST_HOSTS,
-    ONE_OF, POINT, STEP_FIELDS, Header, Origin, Step, Test, Unreadable, answer_fields, event_fields)
-from audit.resp import is_leaf
+    ANSWER_ONE_OF, FIRST_FIELDS, FORMAT, FREE, MOST_HOSTS, MOST_NUMBER, ONE_OF, POINT, STEP_FIELDS, Header, Origin, Step, Test, Unreadable,
+    answer_fields, event_fields, is_known, is_number, other_fields)
 
-OTHER_LINES = {"link": LINK_FIELDS, "carried": CARRIED_FIELDS, "dropped": DROPPED_FIELDS, "end": END_FIELDS}
+
+PARSER = json.JSONDecoder()
 
 
 class Source:
@@ -26,7 +27,14 @@ class Source:
     def parse(self) -> dict:
         """The JSON object of the line."""
         try:
-            parsed = json.loads(self.text)
+            parsed, end = PARSER.scan_once(self.text, 0)
+            if type(parsed) is dict and self.text[end:] == "\n":
+                return parsed
+        except (ValueError, StopIteration, RecursionError):
+            # (`decode` says what is wrong, and takes longer where nothing is)
+            pass
+        try:
+            parsed = PARSER.decode(self.text)
         except json.JSONDecodeError as error:
             raise Unreadable("json", self.number, error.colno, error.msg) from error
         except (ValueError, RecursionError) as error:
@@ -35,23 +43,49 @@ class Source:
             raise Unreadable("json", self.number, 1, "the line is no JSON object")
         return parsed
 
-    def check(self, found: dict, wanted: dict[str, Test], free: set[str] = frozenset()) -> None:
-        """The object has these fields, some of which it may lack, and no others."""
-        for name in found:
-            if name not in wanted:
-                raise self.fault("unknown field", name, f"the field {name!r} isn't known")
-        for name, test in wanted.items():
-            if name in found:
-                if not test(found[name]):
-                    raise self.fault("field", name, f"{name!r} is {json.dumps(found[name])[:60]}")
-            elif name not in free:
-                raise self.fault("missing field", name, f"there is no {name!r}")
+    def check(self, found: dict, shape: "Shape") -> None:
+        """The object has the fields of this shape, and no others."""
+        numbers, others = shape.known.get(tuple(found)) or self.learn(found, shape)
+        for name in numbers:
+            value = found[name]
+            if type(value) is not int or not 0 <= value <= MOST_NUMBER:
+                raise self.wrong(name, value)
+        for name, test in others:
+            if not test(found[name]):
+                raise self.wrong(name, found[name])
 
-    def check_one(self, found: dict, names: tuple[str, ...]) -> None:
-        """The object has just one of these fields."""
-        count = sum(name in found for name in names)
-        if names and count != 1:
-            raise self.fault("field", names[0], f"{count} of the fields {', '.join(names)}; wanted: 1")
+    def wrong(self, name: str, value: object) -> Unreadable:
+        """A field has a value that it can't have."""
+        return self.fault("field", name, f"{name!r} is {json.dumps(value)[:60]}")
+
+    def learn(self, found: dict, shape: "Shape") -> "Known":
+        """How an object with these fields is tested."""
+        for name in found:
+            if name not in shape.fields:
+                raise self.fault("unknown field", name, f"the field {name!r} isn't known")
+        for name in shape.fields:
+            if name not in found and name not in shape.free and name not in shape.one_of:
+                raise self.fault("missing field", name, f"there is no {name!r}")
+        count = sum(name in found for name in shape.one_of)
+        if shape.one_of and count != 1:
+            raise self.fault("field", shape.one_of[0], f"{count} of the fields {', '.join(shape.one_of)}; wanted: 1")
+        numbers = [name for name in found if shape.fields[name] is is_number]
+        others = [(name, shape.fields[name]) for name in found if name not in numbers and shape.fields[name] is not is_known]
+        shape.known[tuple(found)] = numbers, others
+        return numbers, others
+
+
+# The fields that are whole numbers, and the tests of the others.
+Known = tuple[list[str], list[tuple[str, Test]]]
+
+
+@dataclass
+class Shape:
+    """The fields of an object, those that it may lack, and those of which it has one. Lists of fields met before are known."""
+    fields: dict[str, Test]
+    free: frozenset[str] = frozenset()
+    one_of: tuple[str, ...] = ()
+    known: dict[tuple[str, ...], Known] = field(default_factory=dict)
 
 
 class Reader:
@@ -65,8 +99,12 @@ class Reader:
             raise Unreadable("empty", 1, 1, "the file is empty")
         self.header = read_header(self.first)
         self.hashed = not self.header.values
-        self.events = event_fields(self.hashed)
-        self.answers = answer_fields(self.hashed)
+        self.events = {
+            name: Shape({**STEP_FIELDS, **fields}, FREE.get(name, frozenset()), ONE_OF.get(name, ()))
+            for name, fields in event_fields(self.hashed).items()
+        }
+        self.answers = {name: Shape(fields, one_of=ANSWER_ONE_OF.get(name, ())) for name, fields in answer_fields(self.hashed).items()}
+        self.others = {name: Shape(fields) for name, fields in other_fields(self.hashed).items()}
 
     def sources(self) -> Iterator[Source]:
         """The file's lines. The last one ends in a line break too, where the file is whole."""
@@ -99,17 +137,15 @@ class Reader:
 
     def step(self, source: Source, found: dict) -> Step:
         """A step, once its fields are checked."""
-        event, answer = found["event"], found.get("answer")
-        fields = self.events.get(event) if isinstance(event, str) else None
-        if fields is None:
+        event = found["event"]
+        shape = self.events.get(event) if isinstance(event, str) else None
+        if shape is None:
             raise source.fault("field", "event", f"there is no event {json.dumps(event)[:60]}")
-        some = ONE_OF.get(event, ())
-        source.check(found, {**STEP_FIELDS, **fields}, FREE.get(event, frozenset()) | set(some))
-        source.check_one(found, some)
-        some = ANSWER_ONE_OF.get(event, ())
-        source.check(answer, self.answers[event], set(some))
-        source.check_one(answer, some)
-        self.check_request(source, found)
+        source.check(found, shape)
+        answer = found["answer"]
+        source.check(answer, self.answers[event])
+        if event in ("Arrived", "Taken"):
+            self.check_request(source, found)
         return Step(source.number, found, event, answer)
 
     def check_request(self, source: Source, found: dict) -> None:
@@ -122,14 +158,11 @@ class Reader:
 
     def other(self, source: Source, found: dict) -> str:
         """The kind of a line that is no step, once its fields are checked."""
-        kinds = [name for name in OTHER_LINES if name in found]
-        if not kinds or not isinstance(found[kinds[0]], dict):
-            raise Unreadable("line", source.number, 1, "the line is neither a step nor one of: " + ", ".join(OTHER_LINES))
-        kind = kinds[0]
-        source.check(found, {kind: lambda _: True})
-        source.check(found[kind], OTHER_LINES[kind])
-        if "rest" in found[kind] and not is_leaf(found[kind]["rest"], self.hashed):
-            raise source.fault("field", "rest", "the rest is no bytes")
+        kind = next((name for name in self.others if name in found), None)
+        if kind is None or not isinstance(found[kind], dict):
+            raise Unreadable("line", source.number, 1, "the line is neither a step nor one of: " + ", ".join(self.others))
+        source.check(found, Shape({kind: lambda _: True}))
+        source.check(found[kind], self.others[kind])
         return kind
 
 
@@ -139,7 +172,7 @@ def read_header(source: Source) -> Header:
     version = found.get("format")
     if type(version) is int and version > FORMAT:
         raise source.fault("version", "format", f"format {version} is later than {FORMAT}, which is the last one known")
-    source.check(found, {**FIRST_FIELDS, "points": lambda it: isinstance(it, list)}, {"points"})
+    source.check(found, Shape({**FIRST_FIELDS, "points": lambda it: isinstance(it, list)}, frozenset({"points"})))
     if version != FORMAT:
         raise source.fault("version", "format", f"there is no format {version}")
     check_hosts(source, found)
