@@ -310,8 +310,8 @@ class Generation:
     def take(self, host):
         pipe, epoch = self.pipes[host], self.epochs[host]
         if (host, epoch) not in self.links:
-            self.links[host, epoch] = {"local": f"127.0.0.1:{self.world.port()}", "sent": [], "came": []}
-            self.lines.append({"link": {"host": host, "epoch": epoch, "local": self.links[host, epoch]["local"]}})
+            self.links[host, epoch] = {"local": f"127.0.0.1:{self.world.port()}", "at": self.world.now, "sent": [], "came": []}
+            self.lines.append({"link": {"host": host, "epoch": epoch, "local": self.links[host, epoch]["local"], "at": self.world.now}})
         part = pipe["waiting"].pop(0)
         part["at"] = self.world.now
         text = text_of(command(*part["words"]))

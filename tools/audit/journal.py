@@ -165,7 +165,7 @@ class Journal:
         if self.open_count >= MOST_CONNECTIONS:
             self.find("connection_limit", f"{self.open_count + 1} open connections", f"at most {MOST_CONNECTIONS}")
         socket = step.body["socket"]
-        self.connections.append(Connection(number, step.body["pass"], socket, self.line))
+        self.connections.append(Connection(number, step.body["pass"], socket, self.line, step.body["at"]))
         self.open_count += 1
         if socket and socket["from"] is None and (socket["commands"] or leaf_length(socket["rest"])):
             self.find("socket", f"a new socket with {socket['commands']} commands and a rest", "none of either")
@@ -395,8 +395,6 @@ class Journal:
             self.find("epoch", f"a fault of epoch {body['epoch']}", f"epoch {host.epoch}")
             return
         self.check_late(host, body)
-        if self.transcript:
-            self.transcript.faults[(body["host"], host.epoch)] = body["kind"]
         lost = host.fail()
         self.compare("lost_count", "count of lost parts", step.answer["parts"], len(lost))
         for part in lost:

@@ -156,7 +156,7 @@ ADDRESSED_SOCKET = {
 def other_fields(hashed: bool) -> dict[str, dict[str, Test]]:
     """The fields of lines that are no steps."""
     return {
-        "link": {"host": is_number, "epoch": is_number, "local": is_address},
+        "link": {"host": is_number, "epoch": is_number, "local": is_address, "at": is_moment},
         "carried": {"conn": is_number, "socket": is_number, "commands": is_number, "rest": lambda it: is_leaf(it, hashed)},
         "dropped": {"socket": is_number},
         "end": {"steps": is_number, "bytes": is_number},

@@ -43,6 +43,7 @@ class Connection:
     passed: int
     socket: dict | None
     line: int
+    at: int | None
     is_open: bool = True
     is_finishing: bool = False
     was_cut: bool = False
@@ -82,4 +83,3 @@ class Transcript:
     handed: dict[int, list] = field(default_factory=dict)
     sent: dict[tuple[int, int], list] = field(default_factory=dict)
     came: dict[tuple[int, int], list] = field(default_factory=dict)
-    faults: dict[tuple[int, int], str] = field(default_factory=dict)
