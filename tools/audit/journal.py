@@ -379,7 +379,11 @@ class Journal:
             return
         part = host.sent[host.came]
         host.came += 1
-        self.check_clear(value, part.words[0] in SUM_NAMES)
+        is_sum = part.words[0] in SUM_NAMES
+        self.check_clear(value, is_sum)
+        if is_sum and value[0] == ":" and not is_clear(value):
+            # (it was found to be hashed, and no sum can be made of it)
+            value = [":", "0"]
         if self.connections[part.conn].is_open:
             part.command.gets(part, value)
         if self.transcript:
