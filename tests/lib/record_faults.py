@@ -625,6 +625,20 @@ def plant_finished_socket_goes_over(records):
     return False
 
 
+def plant_dropped_socket_goes_on(records):
+    line = first(line for line in records[0] if "carried" in line)
+    if line:
+        line["carried"]["to"] = None
+    return line is not None
+
+
+def plant_socket_goes_back(records):
+    line = first(line for line in records[1] if "carried" in line)
+    if line:
+        line["carried"]["to"] = 0
+    return line is not None
+
+
 def plant_generation_told_twice(records):
     records[1][0]["generation"] = 0
     records[1][0]["from"] = None
@@ -698,5 +712,7 @@ FAULTS = [
     (plant_other_settings_at_the_seam, {"seam_settings"}, BOTH),
     (plant_unanswered_command_goes_over, {"carried"}, BOTH),
     (plant_finished_socket_goes_over, {"carried"}, BOTH),
+    (plant_dropped_socket_goes_on, {"seam_twice"}, BOTH),
+    (plant_socket_goes_back, {"carried"}, BOTH),
     (plant_generation_told_twice, {"opening", "seam_twice"}, BOTH),
 ]

@@ -363,15 +363,16 @@ class Generation:
             pipe["waiting"] = [part for part in pipe["waiting"] if part["client"] is not client]
         self.step(client.worker, "Closed", {}, conn=client.number)
 
-    def carry(self, client):
-        """The socket goes over, with the beginning of its next command."""
+    def carry(self, client, target):
+        """The socket goes over to a generation, or nowhere, with the beginning of its next command."""
         socket, world = client.socket, self.world
         socket.next = world.request(socket)
         whole = text_of(socket.next)
         socket.rest = whole[:world.random.randrange(len(whole) + 1)]
         socket.commands += client.accepted
         socket.origin = {"generation": self.number, "conn": client.number}
-        told = {"conn": client.number, "socket": socket.number, "commands": socket.commands, "rest": world.writer.leaf(socket.rest)}
+        told = {"conn": client.number, "socket": socket.number, "commands": socket.commands, "rest": world.writer.leaf(socket.rest),
+                "to": target}
         self.lines.append({"carried": told})
 
     def ready(self):
@@ -543,7 +544,7 @@ def sweep(world, generation):
     generation.sweep()
 
 
-def drain(world, generation):
+def drain(world, generation, target):
     """Answers all that was accepted, and closes each connection; sockets that may go over do."""
     carried = []
     for _ in range(10_000):
@@ -561,7 +562,7 @@ def drain(world, generation):
         if not any(client.open for client in generation.clients):
             break
     for client in carried:
-        generation.carry(client)
+        generation.carry(client, target)
     return [client.socket for client in carried]
 
 
@@ -578,7 +579,7 @@ def run(seed, steps=300, generations=2, values=True, **settings):
         origin = {"generation": generation.number, "steps": generation.steps, "bytes": generation.bytes}
         for _ in range(world.random.randrange(20)):
             act(world, generation, True)
-        sockets = drain(world, generation)
+        sockets = drain(world, generation, number if number < generations else None)
         if number < generations:
             generation = Generation(world, number, origin, state)
             made.append(generation)

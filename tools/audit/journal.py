@@ -31,7 +31,6 @@ class Tail:
     """What a record tells beside its steps, each with its line."""
     links: list[tuple[int, dict]] = field(default_factory=list)
     carried: list[tuple[int, dict]] = field(default_factory=list)
-    dropped: list[tuple[int, dict]] = field(default_factory=list)
 
 
 class Journal:
@@ -74,7 +73,7 @@ class Journal:
         self.line = 1
         self.check_opening()
         self.look()
-        others = {"link": self.link, "carried": self.carried, "dropped": self.dropped, "end": self.end}
+        others = {"link": self.link, "carried": self.carried, "end": self.end}
         for kind, self.line, found in self.reader.records():
             if kind == "step":
                 self.step(found)
@@ -474,8 +473,6 @@ class Journal:
         if connection.accepted != connection.handed:
             self.find("carried", f"{connection.handed} of {connection.accepted} commands answered", "all")
         self.compare("carried", "count of commands", found["commands"], connection.socket["commands"] + connection.accepted)
+        if found.get("to") is not None and found["to"] <= self.header.generation:
+            self.find("carried", f"to generation {found['to']}", "a later one")
         self.tail.carried.append((self.line, found))
-
-    def dropped(self, found: dict) -> None:
-        """A socket that came over found no generation any more."""
-        self.tail.dropped.append((self.line, found))

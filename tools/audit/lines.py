@@ -79,8 +79,8 @@ def is_number(value: object) -> bool:
     return type(value) is int and 0 <= value <= MOST_NUMBER
 
 
-def is_moment(value: object) -> bool:
-    """A moment, or null."""
+def is_number_or_null(value: object) -> bool:
+    """A whole number, or null."""
     return value is None or type(value) is int and 0 <= value <= MOST_NUMBER
 
 
@@ -156,9 +156,10 @@ ADDRESSED_SOCKET = {
 def other_fields(hashed: bool) -> dict[str, dict[str, Test]]:
     """The fields of lines that are no steps."""
     return {
-        "link": {"host": is_number, "epoch": is_number, "local": is_address, "at": is_moment},
-        "carried": {"conn": is_number, "socket": is_number, "commands": is_number, "rest": lambda it: is_leaf(it, hashed)},
-        "dropped": {"socket": is_number},
+        "link": {"host": is_number, "epoch": is_number, "local": is_address, "at": is_number_or_null},
+        "carried": {
+            "conn": is_number, "socket": is_number, "commands": is_number, "rest": lambda it: is_leaf(it, hashed), "to": is_number_or_null,
+        },
         "end": {"steps": is_number, "bytes": is_number},
     }
 
@@ -206,7 +207,7 @@ def answer_fields(hashed: bool) -> dict[str, dict[str, Test]]:
 
 
 # Fields of which a step has any, or one of several.
-FREE = {"Closed": frozenset({"cut"}), "Arrived": frozenset({"points"})}
+FREE = {"Closed": frozenset({"cut"}), "Arrived": frozenset({"points"}), "carried": frozenset({"to"})}
 ONE_OF = {"Arrived": ("words", "value", "broken")}
 ANSWER_ONE_OF = {"Taken": ("words", "raw"), "Handed": ("value", "raw")}
-STEP_FIELDS = {"n": is_number, "at": is_moment, "pass": is_number, "event": is_known, "answer": lambda it: isinstance(it, dict)}
+STEP_FIELDS = {"n": is_number, "at": is_number_or_null, "pass": is_number, "event": is_known, "answer": lambda it: isinstance(it, dict)}

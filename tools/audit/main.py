@@ -8,7 +8,9 @@ from audit.journal import Journal
 from audit.lines import Unreadable
 from audit.reader import Reader
 from audit.seams import Audited, check_seams
+from audit.sentences import SENTENCES
 from audit.state import Transcript
+from audit.wire import check_comparable, check_wire
 
 GOOD, FOUND, UNREADABLE = 0, 1, 2
 
@@ -16,6 +18,8 @@ GOOD, FOUND, UNREADABLE = 0, 1, 2
 def audit_files(paths: list[str], capture: str | None = None) -> list[Finding]:
     """All that is found in these files, and at their seams; an `Unreadable` carries the file's path as `path`."""
     readers = [opened(path) for path in paths]
+    if capture:
+        with_path(capture, lambda: check_comparable(readers))
     files = []
     for reader in readers:
         header = reader.header
@@ -30,7 +34,6 @@ def audit_files(paths: list[str], capture: str | None = None) -> list[Finding]:
     for line in {file.journal.header.line for file in files}:
         check_seams([file for file in files if file.journal.header.line == line])
     if capture:
-        from audit.wire import check_wire
         with_path(capture, lambda: check_wire(capture, files))
     return [finding for file in files for finding in file.findings.kept]
 
@@ -57,8 +60,14 @@ def main(arguments: list[str]) -> int:
     """Prints what is found, and answers the status."""
     parser = argparse.ArgumentParser(prog="audit.py", description="Checks records of journals (docs/RECORD.md).")
     parser.add_argument("--wire", metavar="PCAP", help="a capture of the same time, whose bytes are compared")
-    parser.add_argument("files", nargs="+", metavar="FILE")
+    parser.add_argument("--sentences", action="store_true", help="lists what is checked")
+    parser.add_argument("files", nargs="*", metavar="FILE")
     options = parser.parse_args(arguments)
+    if options.sentences:
+        print("\n".join(f"{name}: {text}" for name, text in SENTENCES.items()))
+        return GOOD
+    if not options.files:
+        parser.error("no FILE is given")
     # What a journal keeps lives to its end, so that looking for garbage only takes time.
     gc.disable()
     try:

@@ -34,7 +34,7 @@ class Source:
             # (`decode` says what is wrong, and takes longer where nothing is)
             pass
         try:
-            parsed = PARSER.decode(self.text)
+            parsed = PARSER.decode(self.text.rstrip("\n"))
         except json.JSONDecodeError as error:
             raise Unreadable("json", self.number, error.colno, error.msg) from error
         except (ValueError, RecursionError) as error:
@@ -104,7 +104,7 @@ class Reader:
             for name, fields in event_fields(self.hashed).items()
         }
         self.answers = {name: Shape(fields, one_of=ANSWER_ONE_OF.get(name, ())) for name, fields in answer_fields(self.hashed).items()}
-        self.others = {name: Shape(fields) for name, fields in other_fields(self.hashed).items()}
+        self.others = {name: Shape(fields, FREE.get(name, frozenset())) for name, fields in other_fields(self.hashed).items()}
 
     def sources(self) -> Iterator[Source]:
         """The file's lines. The last one ends in a line break too, where the file is whole."""
@@ -120,7 +120,7 @@ class Reader:
                 yield Source(number, text)
 
     def records(self) -> Iterator[tuple[str, int, Step | dict]]:
-        """The steps and other lines in their order: `step`, `link`, `carried`, `dropped` or `end`, with the line's number."""
+        """The steps and other lines in their order: `step`, `link`, `carried` or `end`, with the line's number."""
         source, ended = self.first, False
         for source in self.lines:
             if ended:

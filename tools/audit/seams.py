@@ -31,7 +31,6 @@ def check_seams(files: list[Audited]) -> None:
     for file in by_generation.values():
         check_detection(file, by_generation)
         check_arrivals(file, by_generation)
-    for file in by_generation.values():
         check_departures(file, [it for it in by_generation.values() if it.generation > file.generation])
 
 
@@ -82,19 +81,19 @@ def check_socket(findings: Findings, line: int, now: dict, before: dict) -> None
 
 
 def check_departures(file: Audited, later: list[Audited]) -> None:
-    """Each socket that went over came to one later generation, and to one alone."""
-    if not later:
-        return
+    """Each socket that went over came to the generation that its line tells, once, and to no other."""
     came: dict[int, list[tuple[Audited, int]]] = {}
     for other in later:
         for connection in other.journal.connections:
             origin = connection.socket and connection.socket["from"]
             if origin and origin["generation"] == file.generation:
                 came.setdefault(origin["conn"], []).append((other, connection.line))
-    dropped = {it["socket"] for other in later for _, it in other.journal.tail.dropped}
+    given = {other.generation for other in later}
     for line, gone in file.journal.tail.carried:
-        arrivals = came.get(gone["conn"], [])
-        if not arrivals and gone["socket"] not in dropped:
-            file.findings.add(line, "seam_lost", f"socket {gone['socket']} of connection {gone['conn']} in no later generation", "in one")
-        for other, again in arrivals[1:]:
-            other.findings.add(again, "seam_twice", f"socket {gone['socket']} of connection {gone['conn']} again", "once")
+        found, arrivals = f"socket {gone['socket']} of connection {gone['conn']}", came.get(gone["conn"], [])
+        target = gone.get("to")
+        if target in given and not any(other.generation == target for other, _ in arrivals):
+            file.findings.add(line, "seam_lost", f"{found} not in generation {target}", "there")
+        for number, (other, again) in enumerate(arrivals):
+            if number or "to" in gone and other.generation != target:
+                other.findings.add(again, "seam_twice", f"{found} in generation {other.generation}", f"once, in {target}")

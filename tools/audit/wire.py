@@ -4,6 +4,7 @@ from dataclasses import dataclass, field
 
 from audit.capture import Capture, Stream
 from audit.lines import Unreadable
+from audit.reader import Reader
 from audit.resp import is_plain, shown, value_text
 from audit.seams import Audited
 from audit.state import Connection
@@ -31,11 +32,15 @@ class Life:
         return any(it["conn"] == last.number for _, it in file.journal.tail.carried)
 
 
+def check_comparable(readers: list[Reader]) -> None:
+    """Each record has payloads in the clear, and the address for clients."""
+    for reader in readers:
+        if not reader.header.values or reader.header.listen is None:
+            raise Unreadable("pcap", 1, 1, f"{reader.path} has no payloads or no address to compare")
+
+
 def check_wire(path: str, files: list[Audited]) -> None:
     """Compares all sockets and links of these files with a capture."""
-    for file in files:
-        if not file.journal.header.values or file.journal.header.listen is None:
-            raise Unreadable("pcap", 1, 1, f"{file.findings.file} has no payloads or no address to compare")
     capture, clients, hosts = Capture(path), Counts(), Counts()
     for life in lives(files):
         check_client(capture, life, clients)
