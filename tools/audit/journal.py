@@ -108,21 +108,17 @@ class Journal:
         self.steps += 1
         if self.steps == MOST_STEPS + 1:
             self.find("journal_limit", f"{self.steps} steps", f"at most {MOST_STEPS}")
-        self.check_clock(step)
+        at, passed = step.body["at"], step.body["pass"]
+        if at is not None:
+            if at < self.clocks.get(passed, 0):
+                self.find("moments", f"at {at} in pass {passed}", f"{self.clocks[passed]} or later")
+            self.clocks[passed] = at
         before = self.bytes
         self.handlers[step.event](step)
         if before <= MOST_BYTES < self.bytes:
             self.find("journal_limit", f"{self.bytes} bytes", f"at most {MOST_BYTES}")
         if self.looked_at:
             self.look()
-
-    def check_clock(self, step: Step) -> None:
-        """The clock of a pass never falls."""
-        at, passed = step.body["at"], step.body["pass"]
-        if at is not None:
-            if at < self.clocks.get(passed, 0):
-                self.find("moments", f"at {at} in pass {passed}", f"{self.clocks[passed]} or later")
-            self.clocks[passed] = at
 
     def check_worker(self, step: Step, worker: int) -> None:
         """The steps of a worker's hosts are all of one pass, which no other worker has; -1 stands for the sweeping thread."""
@@ -238,7 +234,8 @@ class Journal:
                 self.find("form", "a command as a value", "its words")
             return INVALID
         self.bytes += words_length(body["words"])
-        self.check_words(body["words"])
+        if self.reader.hashed:
+            self.check_words(body["words"])
         return self.table.plan(body["words"])
 
     def check_points(self, step: Step, parts: int) -> None:
@@ -335,7 +332,8 @@ class Journal:
             self.bytes += leaf_length(step.answer["raw"])
         else:
             self.bytes += words_length(words)
-            self.check_words(words)
+            if self.reader.hashed:
+                self.check_words(words)
         if not host:
             return
         self.compare("epoch", "epoch", step.answer["epoch"], host.epoch)
@@ -437,8 +435,8 @@ class Journal:
     # WHAT STANDS IN THE CLEAR
 
     def check_words(self, words: list[str]) -> None:
-        """Where values are hashed, no word but a command's name stands in the clear."""
-        if self.reader.hashed and any(":" not in word for word in words[1:]):
+        """No word but a command's name stands in the clear."""
+        if any(":" not in word for word in words[1:]):
             self.find("in_the_clear", "a word in the clear", "its length and hash")
 
     def check_clear(self, value: list, is_sum: bool) -> None:

@@ -4,7 +4,7 @@ from collections.abc import Callable
 from dataclasses import dataclass
 
 from audit.detection import HostState, Rules
-from audit.resp import is_leaf, is_value
+from audit.resp import are_words, is_leaf, is_value
 
 FORMAT = 1
 MOST_HOSTS = 64
@@ -166,20 +166,17 @@ def other_fields(hashed: bool) -> dict[str, dict[str, Test]]:
 
 def event_fields(hashed: bool) -> dict[str, dict[str, Test]]:
     """The fields of each event."""
-    def value(it: object) -> bool:
-        return is_value(it, hashed)
-
     conn, host = {"conn": is_number}, {"host": is_number}
     request = {
-        "words": lambda it: isinstance(it, list) and bool(it) and all(is_leaf(word, hashed) for word in it),
-        "value": value, "broken": lambda it: it is True, "points": list_of(within(0, 2 ** 32 - 1)),
+        "words": lambda it: are_words(it, hashed),
+        "value": lambda it: is_value(it, hashed), "broken": lambda it: it is True, "points": list_of(within(0, 2 ** 32 - 1)),
     }
     return {
         "Opened": {"socket": optional(record_of({**ADDRESSED_SOCKET, "rest": lambda it: is_leaf(it, hashed)}))},
         "Arrived": {**conn, **request},
         "Finished": conn,
         "Taken": host,
-        "Answered": {**host, "epoch": is_number, "t": is_number, "value": value},
+        "Answered": {**host, "epoch": is_number, "t": is_number, "value": lambda it: is_value(it, hashed)},
         "Failed": {**host, "epoch": is_number, "kind": one_of(*KINDS), "t": is_number},
         "Swept": {"t": is_number},
         "Handed": conn,
@@ -192,7 +189,7 @@ def answer_fields(hashed: bool) -> dict[str, dict[str, Test]]:
     counts = dict.fromkeys(("parts", "no_host", "busy"), is_number)
     raw = {"raw": lambda it: is_leaf(it, hashed)}
     trip = {"trip": one_of(*TRIPS)}
-    words = {"words": lambda it: isinstance(it, list) and bool(it) and all(is_leaf(word, hashed) for word in it)}
+    words = {"words": lambda it: are_words(it, hashed)}
     return {
         "Opened": {"conn": is_number},
         "Arrived": {"index": is_number, "local": optional(one_of(*LOCALS)), **counts},

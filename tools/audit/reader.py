@@ -14,11 +14,11 @@ PARSER = json.JSONDecoder()
 
 
 class Source:
-    """A line of a file, for the places of faults."""
+    """The line of a file that is being read, for the places of faults."""
 
-    def __init__(self, number: int, text: str) -> None:
-        self.number = number
-        self.text = text
+    def __init__(self) -> None:
+        self.number = 0
+        self.text = ""
 
     def fault(self, name: str, field: str, text: str) -> Unreadable:
         """A fault at a field of the line, or at the line's beginning where it has no such field."""
@@ -107,17 +107,18 @@ class Reader:
         self.others = {name: Shape(fields, FREE.get(name, frozenset())) for name, fields in other_fields(self.hashed).items()}
 
     def sources(self) -> Iterator[Source]:
-        """The file's lines. The last one ends in a line break too, where the file is whole."""
+        """The file's lines, one after the other. The last one ends in a line break too, where the file is whole."""
+        source = Source()
         with Path(self.path).open("rb") as file:
-            for number, line in enumerate(file, 1):
+            for source.number, line in enumerate(file, 1):
                 try:
-                    text = line.decode("utf-8")
+                    source.text = text = line.decode("utf-8")
                 except UnicodeDecodeError as error:
                     column = len(line[:error.start].decode("utf-8", "replace")) + 1
-                    raise Unreadable("utf-8", number, column, "a byte that is no UTF-8") from error
-                if not text.endswith("\n"):
-                    raise Unreadable("incomplete", number, len(text) + 1, "the file ends within a line")
-                yield Source(number, text)
+                    raise Unreadable("utf-8", source.number, column, "a byte that is no UTF-8") from error
+                if text[-1] != "\n":
+                    raise Unreadable("incomplete", source.number, len(text) + 1, "the file ends within a line")
+                yield source
 
     def records(self) -> Iterator[tuple[str, int, Step | dict]]:
         """The steps and other lines in their order: `step`, `link`, `carried` or `end`, with the line's number."""

@@ -6,6 +6,7 @@ A value is a list, its type's character first: `["+", leaf]`, `["-", leaf]`, `["
 import re
 
 HEX = re.compile(r"(?:[0-9a-f]{2})*")
+HEX_OR_HASHED = re.compile(r"(?:[0-9a-f]{2})*|(?:0|[1-9][0-9]{0,9}):[0-9a-f]{32}")
 HASHED = re.compile(r"(?:0|[1-9][0-9]{0,9}):[0-9a-f]{32}")
 NUMBER = re.compile(r"0|-?[1-9][0-9]{0,18}")
 LEAST, GREATEST = -2 ** 63, 2 ** 63 - 1
@@ -25,7 +26,18 @@ OWN_BEGINNINGS = tuple(
 
 def is_leaf(leaf: object, hashed: bool) -> bool:
     """Whether this is a leaf: hexadecimal digits, or where values are hashed also a length and a hash."""
-    return isinstance(leaf, str) and bool(HEX.fullmatch(leaf) or hashed and HASHED.fullmatch(leaf))
+    return type(leaf) is str and (HEX_OR_HASHED if hashed else HEX).fullmatch(leaf) is not None
+
+
+def are_words(words: object, hashed: bool) -> bool:
+    """Whether these are the words of a command: one leaf or more."""
+    if type(words) is not list or not words:
+        return False
+    form = (HEX_OR_HASHED if hashed else HEX).fullmatch
+    for word in words:
+        if type(word) is not str or not form(word):
+            return False
+    return True
 
 
 def is_number(leaf: object, hashed: bool) -> bool:
@@ -39,14 +51,14 @@ def is_number(leaf: object, hashed: bool) -> bool:
 
 def is_value(value: object, hashed: bool, depth: int = 0) -> bool:
     """Whether this is a value."""
-    if not isinstance(value, list) or not value or len(value) > 2:
+    if type(value) is not list or not value or len(value) > 2:
         return False
     kind = value[0]
+    if kind == "$":
+        return len(value) == 1 or is_leaf(value[1], hashed)
     if kind == "*":
         members = value[1] if len(value) == 2 else []
         return depth < MOST_DEPTH and isinstance(members, list) and all(is_value(it, hashed, depth + 1) for it in members)
-    if kind == "$":
-        return len(value) == 1 or is_leaf(value[1], hashed)
     if len(value) == 1:
         return False
     return is_number(value[1], hashed) if kind == ":" else kind in ("+", "-") and is_leaf(value[1], hashed)
@@ -62,8 +74,8 @@ def words_length(words: list[str]) -> int:
     """How many bytes the text of a command has."""
     length = 3 + len(str(len(words)))
     for word in words:
-        payload = leaf_length(word)
-        length += 5 + len(str(payload)) + payload
+        payload = int(word.partition(":")[0]) if ":" in word else len(word) // 2
+        length += payload + (6 if payload < 10 else 7 if payload < 100 else 5 + len(str(payload)))
     return length
 
 
