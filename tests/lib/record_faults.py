@@ -522,11 +522,9 @@ def carried_opening(records):
 def plant_socket_lost_at_the_seam(records):
     line = carried_opening(records)
     if line:
-        rest = line["socket"]["rest"]
-        nothing = first(it["socket"]["rest"] for _, it in steps(records[0], "Opened"))
+        nothing = "" if records[0][0]["values"] else "0:" + "0" * 32
         line["socket"].update({"from": None, "commands": 0, "rest": nothing})
-        return rest is not None
-    return False
+    return line is not None
 
 
 def change_socket(records, line, name, by):
@@ -575,7 +573,8 @@ def plant_other_socket_at_the_seam(records):
 def plant_other_rest_at_the_seam(records):
     line = carried_opening(records)
     if line:
-        line["socket"]["rest"] = b"other".hex() if records[0][0]["values"] else "5:" + "0" * 32
+        length, _, digest = line["socket"]["rest"].partition(":")
+        line["socket"]["rest"] = b"other".hex() if records[0][0]["values"] else f"{int(length) + 1}:{digest}"
     return line is not None
 
 

@@ -243,13 +243,13 @@ class Generation:
         self.pipes = [{"waiting": [], "sent": [], "came": 0} for _ in world.names]
         self.links = {}
         self.bytes = self.steps = 0
-        self.start = world.now
+        self.start, self.writer = world.now, world.writer
 
     def first(self):
         world = self.world
         rules = {name: world.rules[name] for name in world.rules}
         return {"format": 1, "program": "simulator 1", "line": 0, "generation": self.number, "start": UNIX + self.start - ZERO_T,
-                "start_t": self.start, "values": world.writer.values, "hash_key": world.writer.key, "listen": world.listen,
+                "start_t": self.start, "values": self.writer.values, "hash_key": self.writer.key, "listen": world.listen,
                 "hosts": world.names, "weights": world.weights, "tags": world.tags, "workers": world.workers,
                 "reply_ms": world.reply_ms, "detection": rules, "from": self.origin, "opening": self.opening}
 
@@ -581,6 +581,8 @@ def run(seed, steps=300, generations=2, values=True, **settings):
             act(world, generation, True)
         sockets = drain(world, generation, number if number < generations else None)
         if number < generations:
+            # (each file has a key of its own)
+            world.writer = Clear() if values else Hashed(world.random.randbytes(16))
             generation = Generation(world, number, origin, state)
             made.append(generation)
             for socket in sockets:

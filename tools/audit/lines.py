@@ -57,6 +57,7 @@ class Header:
     start: int
     start_t: int
     values: bool
+    hash_key: str | None
     listen: str | None
     hosts: list[str]
     weights: list[int]

@@ -184,7 +184,7 @@ def read_header(source: Source) -> Header:
         raise source.fault("field", "hash_key", "nothing is hashed where values stand in the clear")
     return Header(
         program=found["program"], line=found["line"], generation=found["generation"], start=found["start"], start_t=found["start_t"],
-        values=found["values"], listen=found["listen"], hosts=found["hosts"], weights=found["weights"], points=found.get("points"),
+        values=found["values"], hash_key=found["hash_key"], listen=found["listen"], hosts=found["hosts"], weights=found["weights"], points=found.get("points"),
         tags=found["tags"], workers=found["workers"], reply_ms=found["reply_ms"], rules=Rules(**found["detection"]), origin=origin,
         clock=found["opening"]["clock"], opening=[HostState(**host) for host in found["opening"]["hosts"]])
 

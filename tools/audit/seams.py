@@ -3,6 +3,8 @@ from dataclasses import dataclass
 
 from audit.findings import Findings
 from audit.journal import Journal
+from audit.resp import leaf_length
+from audit.state import Connection
 
 
 @dataclass
@@ -67,6 +69,16 @@ def check_arrivals(file: Audited, by_generation: dict[int, Audited]) -> None:
             file.findings.add(connection.line, "seam_twice", found, "one that went over")
             continue
         check_socket(file.findings, connection.line, connection.socket, gone[0])
+        check_rest(file, before, connection, gone[0]["rest"])
+
+
+def check_rest(file: Audited, before: Audited, connection: Connection, wanted: str) -> None:
+    """A socket brings the bytes that were read before: where two files hash by different keys, as many."""
+    now, old = file.journal.header, before.journal.header
+    found = connection.socket["rest"]
+    alike = now.values == old.values and (now.values or now.hash_key is not None and now.hash_key == old.hash_key)
+    if found != wanted if alike else leaf_length(found) != leaf_length(wanted):
+        file.findings.add(connection.line, "seam_rest", f"a rest {found[:60]!r}", repr(wanted[:60]))
 
 
 def check_socket(findings: Findings, line: int, now: dict, before: dict) -> None:
@@ -76,8 +88,6 @@ def check_socket(findings: Findings, line: int, now: dict, before: dict) -> None
     if now["commands"] != before["commands"]:
         sentence = "seam_twice" if now["commands"] < before["commands"] else "seam_lost"
         findings.add(line, sentence, f"{now['commands']} commands before", before["commands"])
-    if now["rest"] != before["rest"]:
-        findings.add(line, "seam_rest", f"a rest {now['rest'][:60]!r}", repr(before["rest"][:60]))
 
 
 def check_departures(file: Audited, later: list[Audited]) -> None:
