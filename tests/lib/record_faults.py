@@ -74,7 +74,8 @@ def plant_swapped_replies(records):
         words = str(taken[host][came.get(host, 0)]["answer"]["words"])
         if words in owner and line["value"][0] == "$" and handed.count(str(line["value"])) == 1:
             for old, conn, place in known:
-                if place == (host, epoch.get(host, 0)) and conn != owner[words] and old["value"] != line["value"] and len(old["value"]) == 2:
+                is_other = conn != owner[words] and old["value"] != line["value"] and len(old["value"]) == 2
+                if is_other and place == (host, epoch.get(host, 0)):
                     old["value"], line["value"] = line["value"], old["value"]
                     return True
             known.append((line, owner[words], (host, epoch.get(host, 0))))
@@ -618,7 +619,7 @@ def plant_finished_socket_goes_over(records):
     for line in [line for line in record if "carried" in line]:
         at = first(at for at, it in steps(record, "Closed") if it["conn"] == line["carried"]["conn"])
         closing = record[at]
-        record.insert(at, {"n": 0, "at": closing["at"], "pass": closing["pass"], "event": "Finished", "conn": closing["conn"], "answer": {}})
+        record.insert(at, {**closing, "event": "Finished"})
         numbered(record)
         return True
     return False

@@ -16,7 +16,6 @@ xack xadd xautoclaim xclaim xdel xlen xpending xrange xrevrange xtrim
 geoadd geodist geohash geopos getdel getex hrandfield lpos pfadd pfcount smismember zmscore zrandmember
 """.split()
 SUMS = ("del", "exists", "touch", "unlink")
-OWN = ("ping", "echo", "quit")
 SHOWN = 64
 
 Words = list[str]
@@ -44,7 +43,8 @@ class Table:
         self.known = {name: ("one", 1, 2) for name in ONE_KEY}
         self.known.update({name: ("one", 3, 4) for name in ("eval", "evalsha")})
         self.known.update({name: ("sum", 1, 2) for name in SUMS})
-        self.known.update({"mget": ("get", 1, 2), "mset": ("set", 1, 3), "ping": ("own", 0, 1), "echo": ("own", 0, 2), "quit": ("own", 0, 1)})
+        self.known.update({"mget": ("get", 1, 2), "mset": ("set", 1, 3)})
+        self.known.update({"ping": ("own", 0, 1), "echo": ("own", 0, 2), "quit": ("own", 0, 1)})
         self.names: dict[str, str | None] = {}
 
     def name_of(self, word: str) -> str | None:

@@ -39,8 +39,8 @@ class Journal:
     def __init__(self, reader: Reader, findings: Findings, looked_at: set[int], transcript: Transcript | None = None) -> None:
         header = reader.header
         self.reader, self.header, self.findings, self.transcript = reader, header, findings, transcript
-        pairs = {(point, host) for point, host in header.points} if header.points is not None else ketama_points(header.hosts, header.weights)
-        self.ring = Ring(pairs)
+        given = header.points
+        self.ring = Ring(ketama_points(header.hosts, header.weights) if given is None else {(point, host) for point, host in given})
         self.detector = Detector(header.rules, header.clock, [replace(host) for host in header.opening])
         self.hosts = [Host() for _ in header.hosts]
         self.connections: list[Connection] = []

@@ -11,6 +11,8 @@ from audit.lines import (
 
 
 PARSER = json.JSONDecoder()
+AS_THEY_ARE = ("program", "line", "generation", "start", "start_t", "values", "hash_key", "listen", "hosts", "weights", "tags", "workers",
+               "reply_ms")
 
 
 class Source:
@@ -183,9 +185,7 @@ def read_header(source: Source) -> Header:
     if found["values"] and found["hash_key"] is not None:
         raise source.fault("field", "hash_key", "nothing is hashed where values stand in the clear")
     return Header(
-        program=found["program"], line=found["line"], generation=found["generation"], start=found["start"], start_t=found["start_t"],
-        values=found["values"], hash_key=found["hash_key"], listen=found["listen"], hosts=found["hosts"], weights=found["weights"], points=found.get("points"),
-        tags=found["tags"], workers=found["workers"], reply_ms=found["reply_ms"], rules=Rules(**found["detection"]), origin=origin,
+        **{name: found[name] for name in AS_THEY_ARE}, points=found.get("points"), rules=Rules(**found["detection"]), origin=origin,
         clock=found["opening"]["clock"], opening=[HostState(**host) for host in found["opening"]["hosts"]])
 
 

@@ -90,10 +90,13 @@ def check_client(capture: Capture, life: Life, counts: Counts) -> None:
         counts.missed += 1
         return
     counts.compared += 1
-    requests = [it for file, one in life.parts for it in file.journal.transcript.requests.get(one.number, [])]
-    handed = b"".join(value_text(it) for file, one in life.parts for it in file.journal.transcript.handed.get(one.number, []) if is_plain(it))
+    requests, handed = [], []
+    for file, one in life.parts:
+        transcript = file.journal.transcript
+        requests += transcript.requests.get(one.number, [])
+        handed += [value_text(it) for it in transcript.handed.get(one.number, []) if is_plain(it)]
     check_asked(life, asked, requests)
-    check_told(life, asked, told, handed)
+    check_told(life, asked, told, b"".join(handed))
 
 
 def check_asked(life: Life, asked: Stream, requests: list) -> None:
