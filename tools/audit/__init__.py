@@ -1,0 +1,1 @@
+"""The auditor of records: read `journal.py` first."""
