@@ -95,12 +95,12 @@ steps_of seat = own_steps seat.pass.number seat.pass.known.seen
 -- STALLED
 
 -- the client at this key is stalled at this moment, so many bytes wait for it, and for no other stalled one more do
-pub record IsMostStalled (now : ℕ) (clients : Slab ClientConnection) (most : Stalled) : Type 0 where
+pub record IsMostStalled (now : ℕ) (clients : Slab ClientConnection) (stalled : Stalled) : Type 0 where
   pub client : ClientConnection
-  pub there : IsAt clients most.key client
-  pub waits : stalled_bytes now client.waiting ≡ most.bytes
-  pub is_stalled : 0 < most.bytes
-  pub most : (other : ℕ) (one : ClientConnection) → IsAt clients other one → stalled_bytes now one.waiting ≤ most.bytes
+  pub there : IsAt clients stalled.key client
+  pub waits : stalled_bytes now client.waiting ≡ stalled.bytes
+  pub is_stalled : 0 < stalled.bytes
+  pub most : (other : ℕ) (one : ClientConnection) → IsAt clients other one → stalled_bytes now one.waiting ≤ stalled.bytes
 
 -- no client is stalled at this moment
 abbrev pub NoneIsStalled : ℕ → Slab ClientConnection → Type 0

@@ -8,7 +8,7 @@ returns-then-not-has c = λ rises. rises_past _ _ (λ is. absurd (grind (arith, 
 
 pub returns : goal.returns
 returns c = λ rises.
-    rises_to _ _ _ _ c.in_ok-push.ensures.items rises c.new.ensures.host
+    rises_to _ _ _ _ c.in_ok-push.ensures.items rises c.new-connection.ensures.host
     (c.has.ensures.0 (grind (arith, c.if-not-has.false)))
-    c.new.ensures.carries
-    (c.index-entry.result.now, rw c.new.ensures.host (slice_get_read c.args.config.now.hosts.items _ c.args.host c.index-entry.result.now refl c.requires.there c.index-entry.ensures), c.new.ensures.address)
+    c.new-connection.ensures.carries
+    (c.index-entry.result.now, rw c.new-connection.ensures.host (slice_get_read c.args.config.now.hosts.items _ c.args.host c.index-entry.result.now refl c.requires.there c.index-entry.ensures), c.new-connection.ensures.address)
