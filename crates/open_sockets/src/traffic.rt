@@ -4,8 +4,7 @@ use std::alloc::{AllocError, Global};
 use std::sync::Arc;
 use std::sync::atomic::{AtomicU64, Ordering};
 
-/// The bytes of some sockets, read and written, as the system told of each call. Threads may add to them and read them without
-/// a lock.
+/// The bytes of some sockets, as the system told of each call, over all threads.
 #[derive(Drop)]
 pub struct Traffic {
     read: AtomicU64,
@@ -61,25 +60,10 @@ impl WorkerTraffic {
             hosts: shared(alloc)?,
         })
     }
-
-    /// The same, which takes no memory of its own. Refused only where too many are there.
-    pub fn share(&self) -> Result<WorkerTraffic, AllocError> {
-        Ok(WorkerTraffic {
-            clients: another(&self.clients)?,
-            hosts: another(&self.hosts)?,
-        })
-    }
 }
 
 fn shared(alloc: Global) -> Result<Arc<Traffic>, AllocError> {
     match Arc::new(alloc, Traffic::new()) {
-        Ok(traffic) => Ok(traffic),
-        Err(_) => Err(AllocError),
-    }
-}
-
-fn another(traffic: &Arc<Traffic>) -> Result<Arc<Traffic>, AllocError> {
-    match Arc::try_clone(traffic) {
         Ok(traffic) => Ok(traffic),
         Err(_) => Err(AllocError),
     }

@@ -15,7 +15,6 @@ use crate::step_error::StepError;
 use fresh_stream::{Connected, FreshStream};
 use journal_room::{HeldTurns, JournalRoom, MeteredTurns, TurnCounts};
 use limits::MAX_HOSTS;
-use mio::Token;
 use mio::event::Event as Readiness;
 use open_sockets::Traffic;
 use proxy_engines::{EngineError, HostEngine, Progress};
@@ -102,19 +101,18 @@ impl HostConnection {
     pub(crate) fn new(
         alloc: Global,
         host: usize,
-        address: SocketAddr,
-        token: Token,
+        link: HostLink,
         reply_ms: u64,
         traffic: Arc<Traffic>,
     ) -> HostConnection
         ensures host { result.engine.outbox.host ≡ host }
-        ensures address { result.link ≡ address }
+        ensures address { result.link ≡ link }
         ensures carries { CarriesLink [] result }
     {
         HostConnection {
             alloc,
             engine: HostEngine::new(alloc, host, reply_ms),
-            link: HostLink::new(address, token, reply_ms),
+            link,
             looked: 0,
             has_more: true,
             refusals: Refusals::new(),

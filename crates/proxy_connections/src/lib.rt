@@ -28,4 +28,4 @@ pub use laws::{assigned_hosts_have_one_pass, hosts_have_their_workers, passes_sh
 pub use round::Round;
 pub use stalled::Stalled;
 pub use step_error::StepError;
-pub use worker_connections::{ClientResult, HOSTS, HostResult, WorkerConnections};
+pub use worker_connections::{ClientResult, ConnectionSetup, HOSTS, HostResult, WorkerConnections};

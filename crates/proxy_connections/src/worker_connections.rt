@@ -9,6 +9,7 @@ use crate::client_connection::{
     CarriedSocket, ClientConnection, ClientRound, Lent, NewSocket, Opening, Stepped,
 };
 use crate::host_connection::{HostConnection, HostStepped, HostTime};
+use crate::host_link::HostLink;
 use crate::round::{HostRound, Round};
 use crate::stalled;
 use crate::stalled::Stalled;
@@ -18,7 +19,7 @@ use journal_budget::StepKind;
 use journal_room::{JournalRoom, MeteredTurns, OpenConnection};
 use mio::event::Event;
 use mio::{Registry, Token};
-use open_sockets::{AdmittedStream, Traffic, WorkerTraffic};
+use open_sockets::{AdmittedStream, WorkerTraffic};
 use proxy_config::Config;
 use proxy_exit_status::Ending;
 use proxy_histogram::Histogram;
@@ -56,6 +57,17 @@ pub struct HostResult {
     pub may_go: bool,
 }
 
+/// What a worker's connections are made with.
+#[derive(Clone, Copy)]
+pub struct ConnectionSetup<'a> {
+    /// Where their memory comes from.
+    pub alloc: Global,
+    /// The settings.
+    pub config: &'a Config,
+    /// What their sockets move is counted here.
+    pub traffic: &'a WorkerTraffic,
+}
+
 /// The clients and hosts of a worker.
 ///
 /// At all times each client's engine has done just what its socket's logs show, and each host's what its link's show,
@@ -72,7 +84,7 @@ pub struct WorkerConnections<'a> {
     // Bit h: parts came for host h since its last round.
     stirred: u64,
     lent: Lent,
-    traffic: WorkerTraffic,
+    traffic: &'a WorkerTraffic,
 }
 
 impl Drop for WorkerConnections<'_> {
@@ -120,23 +132,25 @@ impl<'a> Model for WorkerConnections<'a> {
 
 impl<'a> WorkerConnections<'a> {
     /// The hosts of the worker at this place, each without a link, and no client. Each client's connection is closed behind
-    /// these refused commands. What its sockets move is counted in this traffic. Ends with `Memory` where there is none for
-    /// the hosts.
+    /// these refused commands. Ends with `Memory` where there is none for the hosts.
     pub fn new(
-        alloc: Global,
+        setup: ConnectionSetup<'a>,
         place: Place,
-        config: &'a Config,
         behind: &'a CloseBehind,
         seat: Seated<'a, TalliedCore>,
-        traffic: WorkerTraffic,
     ) -> Result<WorkerConnections<'a>, Ending>
         requires { steps_of seat ≡ [] }
         ensures place { IfOk result (λ made. made.place ≡ place) }
-        ensures settings { IfOk result (λ made. made.settings ≡ config.now.hosts.items) }
+        ensures settings { IfOk result (λ made. made.settings ≡ setup.config.now.hosts.items) }
         ensures hosts { 0 < place.workers → IfOk result (λ made.
-            map number_of made.hosts ≡ hosts_of place (length config.now.hosts.items)) }
+            map number_of made.hosts ≡ hosts_of place (length setup.config.now.hosts.items)) }
     {
-        let hosts = hosts_of(alloc, place, config, &traffic.hosts)?;
+        let hosts = hosts_of(setup, place)?;
+        let ConnectionSetup {
+            alloc,
+            config,
+            traffic,
+        } = setup;
         Ok(WorkerConnections {
             alloc,
             turns: MeteredTurns::new(seat),
@@ -621,50 +635,44 @@ fn is_any_connecting(hosts: &[HostConnection], now: u64) -> bool {
     hosts.iter().any(|host| host.is_connecting(now))
 }
 
-fn hosts_of(
-    alloc: Global,
-    place: Place,
-    config: &Config,
-    traffic: &Arc<Traffic>,
-) -> Result<Vec<HostConnection>, Ending>
+fn hosts_of(setup: ConnectionSetup<'_>, place: Place) -> Result<Vec<HostConnection>, Ending>
     ensures serves { IfOk result (λ hosts.
-        ServesHosts place config.now.hosts.items hosts.items []) }
+        ServesHosts place setup.config.now.hosts.items hosts.items []) }
     ensures all { 0 < place.workers → IfOk result (λ hosts.
-        map number_of hosts.items ≡ hosts_of place (length config.now.hosts.items)) }
+        map number_of hosts.items ≡ hosts_of place (length setup.config.now.hosts.items)) }
 {
-    let mut hosts = Vec::new(alloc);
+    let mut hosts = Vec::new(setup.alloc);
     if place.workers == 0 {
         return Ok(hosts);
     }
-    for host in 0..config.hosts.len() {
-        push_host(&mut hosts, alloc, host, place, config, traffic)?;
+    for host in 0..setup.config.hosts.len() {
+        push_host(&mut hosts, setup, host, place)?;
     }
     Ok(hosts)
 }
 
 fn push_host(
     hosts: &mut Vec<HostConnection>,
-    alloc: Global,
+    setup: ConnectionSetup<'_>,
     host: usize,
     place: Place,
-    config: &Config,
-    traffic: &Arc<Traffic>,
 ) -> Result<(), Ending>
     requires workers { 0 < place.workers }
-    requires there { host < length config.now.hosts.items }
-    ensures { RiseTo place config.now.hosts.items hosts.old.items host
-        → OnOk result (RiseTo place config.now.hosts.items hosts.new.items (host + 1)) }
+    requires there { host < length setup.config.now.hosts.items }
+    ensures { RiseTo place setup.config.now.hosts.items hosts.old.items host
+        → OnOk result (RiseTo place setup.config.now.hosts.items hosts.new.items (host + 1)) }
 {
     if !place.has(host) {
         return Ok(());
     }
-    let entry = &config.hosts[host];
-    let token = Token(HOSTS.saturating_add(hosts.len()));
-    let reply_ms = u64::from(config.reply_ms);
-    let Ok(traffic) = Arc::try_clone(traffic) else {
+    let Ok(traffic) = Arc::try_clone(&setup.traffic.hosts) else {
         return Err(Ending::Memory);
     };
-    let connection = HostConnection::new(alloc, host, entry.address, token, reply_ms, traffic);
+    let entry = &setup.config.hosts[host];
+    let token = Token(HOSTS.saturating_add(hosts.len()));
+    let reply_ms = u64::from(setup.config.reply_ms);
+    let link = HostLink::new(entry.address, token, reply_ms);
+    let connection = HostConnection::new(setup.alloc, host, link, reply_ms, traffic);
     hosts.push(connection)?;
     Ok(())
 }

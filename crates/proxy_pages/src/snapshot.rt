@@ -119,7 +119,7 @@ pub struct EjectedHosts {
     /// The moment, in milliseconds.
     pub moment: u64,
 
-    /// Each host that a line has put aside, by its number; of several lines the one that has it back first.
+    /// Each ejected host, by its number; of several lines' the first to return.
     pub hosts: [Option<EjectedHost>; MAX_HOSTS],
 }
 

@@ -155,8 +155,7 @@ impl<'a> GenerationState<'a> {
         (self.workers.len() as u64).saturating_add(1)
     }
 
-    /// Counts a thread that has come, and waits for the others. False: some didn't come in time, and none begins. What was
-    /// decided first stays: one that waits no longer decides nothing where all others have come.
+    /// Counts a thread that has come, and waits for the others. False: some didn't come in time, and none begins.
     pub(crate) fn wait_for_all<R: Clock>(&self, rt: &R) -> bool {
         if self.come.fetch_add(1, Ordering::SeqCst).saturating_add(1) == self.threads() {
             self.decide(BEGUN);
@@ -210,7 +209,7 @@ impl<'a> GenerationState<'a> {
     }
 
     /// What its workers are to do: as `phase`, but `Draining` once the room accepts no further commands, and `Stopped` once it
-    /// was, since a worker that stops counts on the others to do so.
+    /// was.
     pub(crate) fn worker_phase(&self) -> Phase {
         if self.is_stopped.load(Ordering::SeqCst) {
             return Phase::Stopped;

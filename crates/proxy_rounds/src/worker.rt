@@ -5,7 +5,7 @@ ghost use Rattle.proxy_connections.specs.WorkerConnections.{steps_of};
 use crate::generation_state::{GenerationState, ThreadContext};
 use mio::event::Event;
 use mio::{Events, Poll, Token};
-use proxy_connections::{HOSTS, StepError, WorkerConnections};
+use proxy_connections::{ConnectionSetup, HOSTS, StepError, WorkerConnections};
 use proxy_exit_status::Ending;
 use proxy_generations::{Change, Mode, Phase};
 use proxy_notices::Place;
@@ -137,11 +137,18 @@ impl<'a> WorkerSetup<'a> {
             behind,
             marks: _,
         } = context;
-        let traffic = generation.line().traffic(place.index)?;
+        let Some(traffic) = generation.line().traffic(place.index) else {
+            return Err(Ending::Memory);
+        };
+        let setup = ConnectionSetup {
+            alloc,
+            config,
+            traffic,
+        };
         Ok(Worker {
             poll,
             generation,
-            connections: WorkerConnections::new(alloc, place, config, behind, seat, traffic)?,
+            connections: WorkerConnections::new(setup, place, behind, seat)?,
             reply_ms: config.reply_ms,
             opening: Refusals::new(),
             now: Moment::FIRST,

@@ -14,8 +14,7 @@
 //!               GenerationState: WorkerStatus, Notices, JournalRoom, and the gate
 //! ```
 //!
-//! It stands on `proxy_rounds`, which has a generation's threads, on `proxy_connections`, which has a worker's clients and
-//! hosts, and on `proxy_server`. Begin with `serve` in `serving.rt`.
+//! It stands on `proxy_rounds`. Begin with `serve` in `serving.rt`.
 #![tactic(auto)]
 
 mod acceptor;

@@ -57,8 +57,7 @@ pub struct Options {
 /// It drains when SIGTERM or SIGINT waits for the process, by `status`, `drain_after_ms` later: no further client is accepted,
 /// what has come is answered, and then each connection is closed. If both wait it ends at once.
 ///
-/// The next journal opens when one has reached the marks. At most `MAX_GENERATIONS` have connections at a time, and one more
-/// is kept.
+/// The next journal opens when one has reached the marks.
 ///
 /// Stops with `Socket` (5), and what failed, where the listener, a poll or the writer fails, and at once where SIGTERM is
 /// blocked and `status` can't be read. Stops with `Memory` (6)

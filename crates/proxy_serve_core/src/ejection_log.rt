@@ -33,7 +33,7 @@ impl EjectedHost {
         ms.div_ceil(1_000)
     }
 
-    /// Of two hosts that are put aside the one that may return first; the one, where only one is.
+    /// Of two hosts that are out, the one that returns first.
     pub fn first(one: Option<EjectedHost>, other: Option<EjectedHost>) -> Option<EjectedHost>
         ensures { result ≡ first_of one other }
     {

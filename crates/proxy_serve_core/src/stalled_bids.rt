@@ -32,7 +32,7 @@ impl StalledBid {
     }
 }
 
-/// Which worker is to close a stalled client: while too many bytes wait for clients each one bids what waits for its own greatest.
+/// Which worker is to close a stalled client: each bids what waits for its own greatest.
 #[derive(Drop)]
 pub struct StalledBids {
     bids: Vec<StalledBid>,
@@ -102,7 +102,6 @@ fn since_of(bids: &[StalledBid], bidder: u64, now: u64) -> u64
     now
 }
 
-// Whether none of them is of more bytes.
 fn is_at_most(bids: &[StalledBid], bytes: u64) -> bool
     ensures { IsTrue result ↔ All (IsAtMost bytes) bids.now }
 {

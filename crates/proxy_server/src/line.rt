@@ -136,11 +136,11 @@ impl<C: Drop> Line<C> {
         bid.unwrap_or(bytes > 0)
     }
 
-    /// What the sockets of the worker of this index move. Refused for want of memory.
-    pub fn traffic(&self, index: usize) -> Result<WorkerTraffic, AllocError> {
+    /// Where the bytes of the worker of this index are counted. `None`: there is no such worker.
+    pub fn traffic(&self, index: usize) -> Option<&WorkerTraffic> {
         match self.queues.get(index) {
-            Some(queue) => queue.traffic.share(),
-            None => Err(AllocError),
+            Some(queue) => Some(&queue.traffic),
+            None => None,
         }
     }
 
