@@ -141,9 +141,9 @@ impl<'a> WorkerConnections<'a> {
     ) -> Result<WorkerConnections<'a>, Ending>
         requires { steps_of seat ≡ [] }
         ensures place { IfOk result (λ made. made.place ≡ place) }
-        ensures settings { IfOk result (λ made. made.settings ≡ setup.config.now.hosts.items) }
+        ensures settings { IfOk result (λ made. made.settings ≡ setup.entry.config.now.hosts.items) }
         ensures hosts { 0 < place.workers → IfOk result (λ made.
-            map number_of made.hosts ≡ hosts_of place (length setup.config.now.hosts.items)) }
+            map number_of made.hosts ≡ hosts_of place (length setup.entry.config.now.hosts.items)) }
     {
         let hosts = hosts_of(setup, place)?;
         let ConnectionSetup {
@@ -637,9 +637,9 @@ fn is_any_connecting(hosts: &[HostConnection], now: u64) -> bool {
 
 fn hosts_of(setup: ConnectionSetup<'_>, place: Place) -> Result<Vec<HostConnection>, Ending>
     ensures serves { IfOk result (λ hosts.
-        ServesHosts place setup.config.now.hosts.items hosts.items []) }
+        ServesHosts place setup.entry.config.now.hosts.items hosts.items []) }
     ensures all { 0 < place.workers → IfOk result (λ hosts.
-        map number_of hosts.items ≡ hosts_of place (length setup.config.now.hosts.items)) }
+        map number_of hosts.items ≡ hosts_of place (length setup.entry.config.now.hosts.items)) }
 {
     let mut hosts = Vec::new(setup.alloc);
     if place.workers == 0 {
@@ -659,8 +659,8 @@ fn push_host(
 ) -> Result<(), Ending>
     requires workers { 0 < place.workers }
     requires there { host < length setup.config.now.hosts.items }
-    ensures { RiseTo place setup.config.now.hosts.items hosts.old.items host
-        → OnOk result (RiseTo place setup.config.now.hosts.items hosts.new.items (host + 1)) }
+    ensures { RiseTo place setup.entry.config.now.hosts.items hosts.old.items host
+        → OnOk result (RiseTo place setup.entry.config.now.hosts.items hosts.new.items (host + 1)) }
 {
     if !place.has(host) {
         return Ok(());
