@@ -141,7 +141,8 @@ impl<'a> WorkerConnections<'a> {
     ) -> Result<WorkerConnections<'a>, Ending>
         requires { steps_of seat ≡ [] }
         ensures place { IfOk result (λ made. made.place ≡ place) }
-        ensures settings { IfOk result (λ made. made.settings ≡ setup.entry.config.now.hosts.items) }
+        ensures settings { IfOk result (λ made.
+            made.settings ≡ setup.entry.config.now.hosts.items) }
         ensures hosts { 0 < place.workers → IfOk result (λ made.
             map number_of made.hosts ≡ hosts_of place (length setup.entry.config.now.hosts.items)) }
     {
