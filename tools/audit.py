@@ -1,5 +1,5 @@
 #!/usr/bin/env python3
-"""Checks records of journals, as docs/RECORD.md defines them, against the promises of README:
+"""Checks records of journals, as tools/audit/RECORD.md defines them, against the promises of README:
 
     tools/audit.py [--wire PCAP] FILE [FILE..]
     tools/audit.py --sentences

@@ -1,4 +1,4 @@
-"""Random legal runs of a proxy, as records that docs/RECORD.md defines: what tests/audit has read.
+"""Random legal runs of a proxy, as records that tools/audit/RECORD.md defines: what tests/audit has read.
 
 It shares nothing with tools/audit. Owners are least members of a set, and outlier detection is counted in the list of all results.
 Values are pairs of RESP2's type character and bytes, a number, a list or None.

@@ -58,7 +58,7 @@ def opened(path: str) -> Reader:
 
 def main(arguments: list[str]) -> int:
     """Prints what is found, and answers the status."""
-    parser = argparse.ArgumentParser(prog="audit.py", description="Checks records of journals (docs/RECORD.md).")
+    parser = argparse.ArgumentParser(prog="audit.py", description="Checks records of journals (tools/audit/RECORD.md).")
     parser.add_argument("--wire", metavar="PCAP", help="a capture of the same time, whose bytes are compared")
     parser.add_argument("--sentences", action="store_true", help="lists what is checked")
     parser.add_argument("files", nargs="*", metavar="FILE")
