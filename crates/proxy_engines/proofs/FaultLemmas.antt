@@ -6,7 +6,7 @@ use Rattle.proxy_history.specs.declared.event.Kind.{Kind}
 use Rattle.proxy_history.specs.declared.refusal.Refusal.{Refusal}
 use Rattle.proxy_engines.specs.Ends.{InboxState, KeepsReader}
 use Rattle.proxy_engines.specs.Host.{HostOutboxState, LinkState, next_link}
-use Rattle.proxy_engines.specs.Faults.{HasRead, IsCauseOf, IsOfDevice, LinkMove, IsDueErrorOn, IsLate, IfFault, is_fault, either}
+use Rattle.proxy_engines.specs.Faults.{HasRead, IsCauseOf, IsOfDevice, LinkMove, IsDueErrorOn, IsLate, IsLateOn, IfFault, is_fault, either}
 use Rattle.proxy_engines.specs.HostStep.{answer_of}
 use Rattle.ticket_gate.specs.Journal.{StartsWith}
 use Rattle.proxy_history.specs.declared.event.Event.{Event}
@@ -121,3 +121,7 @@ not_late-anew l l' m is = not_late-none l' m (ap (λ (z : HostOutboxState). z.mo
 -- a move that came to no fault came to no late reply
 pub not_late-calm : (l : HostOutboxState) (m : ℕ) (o : Outcome) → is_fault o ≡ true → is_fault o ≡ false → ¬ IsLate l m
 not_late-calm l m o fault calm = let e : true ≡ false = sym fault ∙ calm in absurd cc
+
+-- a late reply, over moves before which nothing was read
+pub late_from : (i j k : LinkState) (l : HostOutboxState) (m : ℕ) → j.inbox ≡ i.inbox → IsLateOn l (from_to j k) m → IsLateOn l (from_to i k) m
+late_from i j k l m inbox late = record { late = late.late; reads = rw inbox at late.reads; none_waits = late.none_waits; all = late.all }

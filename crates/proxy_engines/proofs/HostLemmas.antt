@@ -69,9 +69,19 @@ module _ (old new : HostState) (H I : History) (kind : Kind) (m : ℕ) where
   pub told_moved : (A : Type 0) (error : Option EngineError) (result : Result Progress EngineError) → TellsFault (calls old new H I m) kind error result → IfOk result (λ p. p ≡ Progress.Idle → A)
   told_moved A error result told = if_ok _ _ result (λ p (moved, _, _, _) idle. absurd cc) (told_ok error result told)
 
+  pub told_needs_none : (error : Option EngineError) (result : Result Progress EngineError) → TellsFault (calls old new H I m) kind error result → IfOk result (λ p. p ≢ Progress.NeedsLink)
+  told_needs_none error result told = if_ok _ _ result (λ p (moved, _, _, _) needs. absurd cc) (told_ok error result told)
+
   pub told_link : (error : Option EngineError) (result : Result Progress EngineError) → old.link ≡ None → TellsFault (calls old new H I m) kind error result → new.link ≡ None
   told_link error result none (inl (records, _)) = records.fails.link
   told_link error result none (inr (kept, _, _)) = ap (λ (z : HostState). z.link) kept ∙ none
+
+-- what held of the outbox and the link before a fault was told holds of a link that stays
+pub told_stays : (P : HostOutboxState → LinkState → Type 0) (old new : HostState) (H I : History) (kind : Kind) (m : ℕ) (error : Option EngineError) (result : Result Progress EngineError)
+    → IfSome old.link (P old.outbox) → TellsFault (calls old new H I m) kind error result → IfSome new.link (P new.outbox)
+told_stays P old new H I kind m error result held (inl (records, _)) = rw records.fails.link tt
+told_stays P old new H I kind m error result held (inr (kept, _, _)) =
+    rw (ap (λ (z : HostState). z.link) kept, ap (λ (z : HostState). z.outbox) kept) held
 
 -- the cause of a fault, of the lists before and after it was recorded
 pub unasked_here : (C : Event → List Step → Type 0) (x y z : List Step) (m : ℕ) → StartsWith y x → StartsWith z y → (kind : Kind) (error : Option EngineError) (l : HostOutboxState) (j k : LinkState)

@@ -4,7 +4,7 @@ use Rattle.std.specs.Prelude.{drop, slice_index_or, ◌||◌}
 use Rattle.std.specs.Option.{is_some}
 use Rattle.std.specs.Io.KnownBytes.{Appends}
 use Rattle.std.proofs.lemmas.Bool.{ne_eqb}
-use Rattle.std.proofs.lemmas.List.{map-append}
+use Rattle.std.proofs.lemmas.List.{map-append, drop-drop}
 use Rattle.std.proofs.lemmas.List.Elements.{filter-append, All-append, All-cons, All-nil}
 use Rattle.resp_core.specs.Tree.{Tree}
 use Rattle.resp_core.specs.Value.{tree_of}
@@ -25,7 +25,7 @@ use Rattle.proxy_history.specs.declared.answer.Answer.{Answer}
 use Rattle.proxy_history.proofs.CallerLemmas as history
 use Rattle.proxy_engines.specs.Ends.{InboxState, Holds, HasGivenAll, KeepsReader, Reads, refusal_requests}
 use Rattle.journal_core.specs.Journal.{step_by}
-use Rattle.proxy_engines.specs.Host.{HostMove, HostOutboxState, LinkState, IsOnLink, CarriesHost, GoesOn, FailsHost, IsReplyAt, ReadsOn, WritesLink, WritesOn, moments_by, moments_after, waiting_requests, next_link}
+use Rattle.proxy_engines.specs.Host.{GetsReplies, HostMove, HostOutboxState, LinkState, IsOnLink, CarriesHost, GoesOn, FailsHost, IsReplyAt, ReadsOn, WritesLink, WritesOn, moments_by, moments_after, waiting_requests, next_link}
 use Rattle.proxy_engines.specs.Moves.{has_moved, AsTold, IsEndOf, text_sent}
 use Rattle.proxy_engines.specs.Faults.{either, told_by_outcome}
 use Rattle.proxy_engines.specs.declared.link.Outcome.{Outcome}
@@ -410,3 +410,10 @@ pub found_answered : (l : HostOutboxState) (k : LinkState) (v : Value) (pass : �
 found_answered l k v pass H a m none =
     subst (λ (n : Option Value). GoesBy l (record l { moments = drop 1 l.moments }) (Some (record k { next = Some v })) (Some (record k { next = n })) H (step_by pass (Event.Answered l.host l.epoch v m) a ∷ H) m true)
     (sym none) (answered_on l (record k { next = Some v }) v pass H a m refl)
+
+-- parts got replies in two moves, or in none
+pub gets_none : (l : HostOutboxState) → GetsReplies l l
+gets_none l = (0, refl)
+
+pub gets_then : (l m n : HostOutboxState) → GetsReplies l m → GetsReplies m n → GetsReplies l n
+gets_then l m n (i, is) (j, is') = (i + j, rw (is', is) (ap (λ ms. record l { moments = ms }) (drop-drop j i l.moments)))

@@ -93,6 +93,10 @@ abbrev pub moments_after : ℕ → History → List ℕ → List ℕ
 moments_after m [] ms = ms
 moments_after m (s ∷ before) ms = moments_by m s.event (moments_after m before ms)
 
+-- the oldest parts without reply got one, or none did, and nothing was taken
+abbrev pub GetsReplies : HostOutboxState → HostOutboxState → Type 0
+GetsReplies old new = (n : ℕ) × (new ≡ record old { moments = drop n old.moments })
+
 -- the bytes that a link read, and those that it wrote
 abbrev pub ReadsOn : Option LinkState → Option LinkState → List ℕ → Type 0
 ReadsOn None None got = got ≡ []

@@ -10,7 +10,8 @@ use Rattle.proxy_engines.specs.OneTurn.{HasHeld}
 use Rattle.proxy_engines.specs.Moves.{AsTold}
 use Rattle.proxy_engines.specs.Ends.{HasGivenAll}
 use Rattle.proxy_engines.specs.Faults.{HasNoFaultOn, IsDueErrorOn, IsLate, IsPlain}
-use Rattle.proxy_engines.specs.Host.{FailsHost, GoesOn, HostEnds, HostOutboxState, LinkState}
+use Rattle.proxy_engines.specs.Host.{FailsHost, GetsReplies, GoesOn, HostEnds, HostOutboxState, LinkState}
+use Rattle.proxy_engines.specs.LinkSteps.{IsCalmOn}
 use Rattle.proxy_engines.specs.HostStep.{HostCall, HostState, IsIdleOn, IsUnasked, Records, RestsHost, StepsHost, WorksHost}
 use Rattle.proxy_engines.specs.declared.client.Progress.{Progress}
 use Rattle.engine_work.specs.EngineError.{IsTurnRefused}
@@ -111,6 +112,21 @@ module _ {Home Setting : Type 0} (cause : Setting → Refusal → Event → List
     pub idle : IfOk result (λ p. p ≡ Progress.Idle → IfSome old.link (λ j. IfSome new.link (λ k.
         HasRisen j.counts.paused k.counts.paused
         ⊎ ((old.outbox.pending ≡ []) × cause before.setting Refusal.NothingWaiting (Event.Taken old.outbox.host) after.seen))))
+    pub due : IfErr result (IsDueErrorOn (cause before.setting) after.seen new.outbox)
+
+  -- Where no fault was to be recorded: the engine made replies of what it read on its link, if there is one, as the answer tells. It
+  -- took no part and wrote nothing. A link that stays has not failed, each value that came on it was answered, and no reply is late.
+  -- It is idle where the reader paused.
+  pub record ReceivesHost (old new : HostState) (moment : ℕ) (result : Result Progress EngineError) : Type 0 where
+    pub turns : KeepsTurns before after
+    pub works : WorksHost (IsUnasked (cause before.setting Refusal.Unasked) before.seen after.seen moment)
+        (call_of old new moment) result
+    pub untaken : IfSome new.link (λ _. GetsReplies old.outbox new.outbox)
+    pub unwritten : IfSome old.link (λ j. IfSome new.link (λ k. k.counts ≡ j.counts))
+    pub calm : OnOk result (IfSome old.link (λ j. IfSome new.link (λ k. IsCalmOn j k new.outbox moment)))
+    pub idle : IfOk result (λ p. p ≡ Progress.Idle → IfSome old.link (λ j. IfSome new.link (λ k.
+        HasRisen j.inbox.counts.paused k.inbox.counts.paused)))
+    pub needs_none : IfOk result (λ p. p ≢ Progress.NeedsLink)
     pub due : IfErr result (IsDueErrorOn (cause before.setting) after.seen new.outbox)
 
   -- nothing was done, since a fault is to be recorded first

@@ -100,6 +100,15 @@ pub record Receives (unasked : Type 0) (move : LinkMove) (result : Result Outcom
   pub writes : move.new.counts ≡ move.old.counts
   pub err : OnErr result (move.new.inbox.values.refusal ≡ None)
 
+-- The same, and last a late reply is a fault, with this outbox behind it.
+pub record ReceivesInTime (unasked : Type 0) (outbox : HostOutboxState) (move : LinkMove) (moment : ℕ)
+    (result : Result Outcome EngineError) : Type 0 where
+  pub idle : IfOk result (λ outcome. outcome ≡ Outcome.Idle → HasRisen move.old.inbox.counts.paused move.new.inbox.counts.paused)
+  pub calm : IfOk result (λ outcome. is_fault outcome ≡ false → IsCalmOn move.old move.new outbox moment)
+  pub fault : IfOk result (λ outcome. IfFault outcome (IsCauseOf unasked (IsLateOn outbox move moment) move))
+  pub writes : move.new.counts ≡ move.old.counts
+  pub err : OnErr result (move.new.inbox.values.refusal ≡ None)
+
 -- One step on a link, with this outbox behind it. It is idle where the reader paused, and the writer did or no part waited, as
 -- `none_waited` says; a fault has its cause, and behind an error nothing is refused.
 pub record WorksOnLink (unasked none_waited : Type 0) (outbox : HostOutboxState) (move : LinkMove) (moment : ℕ)

@@ -10,7 +10,7 @@ ghost use Rattle.proxy_engines.specs.Moves.{AsTold, told_by_turn};
 ghost use Rattle.proxy_engines.specs.Faults.{HasNoFaultOn, IsLate, IsDueErrorOn, IsPlain};
 ghost use Rattle.proxy_engines.specs.Ends.{HasGivenAll};
 ghost use Rattle.proxy_engines.specs.Host.{LinkState, CarriesHost};
-ghost use Rattle.proxy_engines.specs.HostTurns.{MakesStep, RecordsFault, RestsSending, MovesEnds, MovesHost, SendsHost, TakesOne, TellsHost, call_of};
+ghost use Rattle.proxy_engines.specs.HostTurns.{MakesStep, ReceivesHost, RecordsFault, RestsSending, MovesEnds, MovesHost, SendsHost, TakesOne, TellsHost, call_of};
 ghost use Rattle.proxy_engines.specs.HostStep.{TellsFault, after_fault, answer_of, ends_of, given_up, refused_link};
 ghost use Rattle.proxy_engines.specs.LinkFaults.{Names};
 
@@ -438,6 +438,30 @@ impl<R: ReadTally + Drop, W: WriteTally + Drop> HostEngine<R, W> {
         self.send_on(rt, turns, moment)
     }
 
+    fn receive_on<Rt: Wait, T: CoreTurns>(
+        &mut self,
+        rt: &Rt,
+        turns: &mut T,
+        moment: u64,
+    ) -> Result<Progress, EngineError>
+        requires no_fault { self.old.fault ≡ None }
+        ensures { ReceivesHost T.cause (T.facts turns.old) (T.facts turns.new)
+            self.old self.new moment result }
+    {
+        let Some(link) = &mut self.link else {
+            return Ok(Progress::Idle);
+        };
+        match link.receive_in_time(&mut self.outbox, rt, turns, moment)? {
+            Outcome::Idle => Ok(Progress::Idle),
+            Outcome::Moved => Ok(Progress::Moved),
+            Outcome::Fault { kind, error } => {
+                self.last_fault = Some(LinkFault::of(kind, link.passed_limit()));
+                self.fault = Some(kind);
+                self.tell_fault(rt, turns, kind, error, moment)
+            }
+        }
+    }
+
     /// Makes a step at this moment, in milliseconds. It records an earlier fault. It writes pending bytes once, or
     /// takes one part. On a link it makes a reply of each value read, reads once, and makes a reply of each value that
     /// came. Last, a late reply is a fault.
@@ -463,5 +487,30 @@ impl<R: ReadTally + Drop, W: WriteTally + Drop> HostEngine<R, W> {
         };
         self.record_fault(rt, turns, kind, moment)?;
         after_fault(self.go_on(rt, turns, moment))
+    }
+
+    /// Reads at this moment, in milliseconds, and sends nothing: on a link it makes a reply of each value read, reads
+    /// once, and makes a reply of each value that came. Last, a late reply is a fault. `Idle`: the reader paused, or
+    /// there is no link. So all replies of one read can be made in one stay inside a gate.
+    ///
+    /// Where an earlier fault is to be recorded first it makes a [`step`](HostEngine::step). Faults, and what is
+    /// refused, are as there.
+    pub fn receive<Rt: Wait, T: CoreTurns>(
+        &mut self,
+        rt: &Rt,
+        turns: &mut T,
+        moment: u64,
+    ) -> Result<Progress, EngineError>
+        ensures makes { MakesStep T.cause (T.facts turns.old) (T.facts turns.new)
+            self.old self.new moment result }
+        ensures receives { self.old.fault ≡ None → ReceivesHost T.cause
+            (T.facts turns.old) (T.facts turns.new) self.old self.new moment result }
+        ensures tells { self.old.fault ≢ None → TellsHost T.cause
+            (T.facts turns.old) (T.facts turns.new) self.old self.new moment result }
+    {
+        if self.fault.is_some() {
+            return self.step(rt, turns, moment);
+        }
+        self.receive_on(rt, turns, moment)
     }
 }

@@ -9,9 +9,9 @@ ghost use Rattle.std.specs.Borrow.{sem};
 ghost use Rattle.proxy_devices.specs.Device.{WasIdle, HasRisen, reader_state, writer_state};
 ghost use Rattle.proxy_engines.specs.OneTurn.{HasHeld};
 ghost use Rattle.proxy_engines.specs.Ends.{HasGivenAll, KeepsReader};
-ghost use Rattle.proxy_engines.specs.LinkSteps.{AnswersAll, AnswersNext, AnswersValue, LooksForValue, ReadsOnLink, Receives, SendsOnLink, WorksOnLink, WritesOnLink, with_found};
+ghost use Rattle.proxy_engines.specs.LinkSteps.{AnswersAll, AnswersNext, AnswersValue, LooksForValue, ReadsOnLink, Receives, ReceivesInTime, SendsOnLink, WorksOnLink, WritesOnLink, with_found};
 ghost use Rattle.proxy_engines.specs.HostTurns.{MovesEnds};
-ghost use Rattle.proxy_engines.specs.Host.{HostOutboxState, LinkState, GoesWithoutTurn, on_link};
+ghost use Rattle.proxy_engines.specs.Host.{GetsReplies, HostOutboxState, LinkState, GoesWithoutTurn, on_link};
 ghost use Rattle.proxy_engines.specs.LinkFaults.{TellsLimit};
 ghost use Rattle.proxy_engines.specs.Moves.{AsTold};
 ghost use Rattle.proxy_engines.specs.Faults.{either, is_fault, HasNoFaultOn, HasRead, IfFault, IsCauseOf, IsLate, IsOfDevice, IsUnaskedNow, IsLateOn, IsPlain, told_by_moves, told_by_outcome};
@@ -220,6 +220,7 @@ impl<R: ReadTally, W: WriteTally> Link<R, W> {
             (IsUnaskedNow (T.cause (T.facts turns.old).setting Refusal.Unasked)
             (T.facts turns.new).seen came.1 outbox.new self.new)
             (record { old = self.old; new = self.new }) result }
+        ensures untaken { GetsReplies outbox.old outbox.new }
     {
         let (value, moment) = came;
         match give(rt, turns, outbox.host(), outbox.epoch(), value, moment) {
@@ -274,6 +275,7 @@ impl<R: ReadTally, W: WriteTally> Link<R, W> {
             (IsUnaskedNow (T.cause (T.facts turns.old).setting Refusal.Unasked)
             (T.facts turns.new).seen moment outbox.new self.new)
             (record { old = self.old; new = self.new }) result }
+        ensures untaken { GetsReplies outbox.old outbox.new }
     {
         match self.next_value()? {
             NextValue::Idle => Ok(Outcome::Idle),
@@ -300,6 +302,7 @@ impl<R: ReadTally, W: WriteTally> Link<R, W> {
             (IsUnaskedNow (T.cause (T.facts turns.old).setting Refusal.Unasked)
             (T.facts turns.new).seen moment outbox.new self.new)
             (record { old = self.old; new = self.new }) result }
+        ensures untaken { GetsReplies outbox.old outbox.new }
     {
         let mut outcome = Outcome::Idle;
         for _ in rt.forever() {
@@ -352,6 +355,7 @@ impl<R: ReadTally, W: WriteTally> Link<R, W> {
             (IsUnaskedNow (T.cause (T.facts turns.old).setting Refusal.Unasked)
             (T.facts turns.new).seen moment outbox.new self.new)
             (record { old = self.old; new = self.new }) result }
+        ensures untaken { GetsReplies outbox.old outbox.new }
     {
         let before = self.answer_all(outbox, rt, turns, moment)?;
         if before.is_fault() {
@@ -366,6 +370,37 @@ impl<R: ReadTally, W: WriteTally> Link<R, W> {
             return Ok(after);
         }
         Ok(before.or(heard).or(after))
+    }
+
+    /// Reads, and sends nothing. Last, a late reply is a fault.
+    pub(crate) fn receive_in_time<Rt: Wait, T: CoreTurns>(
+        &mut self,
+        outbox: &mut HostOutbox,
+        rt: &Rt,
+        turns: &mut T,
+        moment: u64,
+    ) -> Result<Outcome, EngineError>
+        requires whole { self.old.inbox.values.refusal ≡ None }
+        ensures moves { MovesEnds T.cause (T.facts turns.old) (T.facts turns.new)
+            (on_link outbox.old self.old) (on_link outbox.new self.new) moment
+            (told_by_moves result) result }
+        ensures receives { ReceivesInTime
+            (IsUnaskedNow (T.cause (T.facts turns.old).setting Refusal.Unasked)
+            (T.facts turns.new).seen moment outbox.new self.new) outbox.new
+            (record { old = self.old; new = self.new }) moment result }
+        ensures untaken { GetsReplies outbox.old outbox.new }
+    {
+        let received = self.receive(outbox, rt, turns, moment)?;
+        if received.is_fault() {
+            return Ok(received);
+        }
+        if outbox.is_late(moment) {
+            return Ok(Outcome::Fault {
+                kind: Kind::Late,
+                error: None,
+            });
+        }
+        Ok(received)
     }
 
     pub(crate) fn step<Rt: Wait, T: CoreTurns>(
@@ -391,15 +426,9 @@ impl<R: ReadTally, W: WriteTally> Link<R, W> {
         if sent.is_fault() {
             return Ok(sent);
         }
-        let received = self.receive(outbox, rt, turns, moment)?;
+        let received = self.receive_in_time(outbox, rt, turns, moment)?;
         if received.is_fault() {
             return Ok(received);
-        }
-        if outbox.is_late(moment) {
-            return Ok(Outcome::Fault {
-                kind: Kind::Late,
-                error: None,
-            });
         }
         Ok(sent.or(received))
     }

@@ -4,7 +4,7 @@ use Rattle.proxy_history.specs.declared.event.Event.{Event}
 use Rattle.proxy_history.specs.declared.event.Kind.{Kind}
 use Rattle.proxy_engines.specs.declared.link.Outcome.{Outcome}
 use Rattle.proxy_engines.proofs.RefusalLemmas.{expected, is_unasked, told_ok, told_plain}
-use Rattle.proxy_engines.proofs.HostMoves.{found_answered, stays_on}
+use Rattle.proxy_engines.proofs.HostMoves.{found_answered, gets_none, stays_on}
 use Rattle.proxy_engines.specs.Faults.{told_by_outcome}
 use Rattle.proxy_engines.proofs.AnswerLemmas.{if_err}
 use Rattle.proxy_engines.proofs.MoveLemmas.{moves_none}
@@ -60,3 +60,9 @@ returns-in-Ok-clause-answers g c =
       moved = λ idle. absurd cc;
       fault = tt;
     }
+
+pub returns-in-Ok-clause-untaken : goal.returns-in-Ok-clause-untaken
+returns-in-Ok-clause-untaken g c = (1, c.forget_moment.ensures)
+
+pub returns-in-Err-clause-untaken : goal.returns-in-Err-clause-untaken
+returns-in-Err-clause-untaken g c = gets_none _

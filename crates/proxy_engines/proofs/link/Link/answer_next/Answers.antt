@@ -1,6 +1,6 @@
 use Rattle.std.proofs.Common.{false}
 use Rattle.proxy_engines.proofs.OwnHistoryLemmas.{keeps_same}
-use Rattle.proxy_engines.proofs.HostMoves.{told_then}
+use Rattle.proxy_engines.proofs.HostMoves.{gets_none, told_then}
 use Rattle.proxy_engines.proofs.link.Link.answer_next.Goals as goal
 
 pub returns-in-Value-clause-moves : goal.returns-in-Value-clause-moves
@@ -26,3 +26,12 @@ returns-in-Idle-clause-moves g c =
       goes = (rw c.in-Idle.is at c.in_ok-next_value.ensures.goes) _ _ _;
       plain = tt;
     }
+
+pub returns-in-Value-clause-untaken : goal.returns-in-Value-clause-untaken
+returns-in-Value-clause-untaken g c = c.answer.ensures.untaken
+
+pub returns-in-Garbled-clause-untaken : goal.returns-in-Garbled-clause-untaken
+returns-in-Garbled-clause-untaken g c = gets_none _
+
+pub returns-in-Idle-clause-untaken : goal.returns-in-Idle-clause-untaken
+returns-in-Idle-clause-untaken g c = gets_none _

@@ -2,7 +2,7 @@ use Rattle.proxy_engines.proofs.OwnHistoryLemmas.{keeps_then}
 use Rattle.proxy_devices.specs.Device.{Counts}
 use Rattle.std.proofs.lemmas.Result.{IfOk-from_err, err_from_is_err_and}
 use Rattle.std.proofs.Common.{◌∙◌, Some, sym, ap}
-use Rattle.proxy_engines.proofs.HostMoves.{told_both, told_either}
+use Rattle.proxy_engines.proofs.HostMoves.{gets_then, told_both, told_either}
 use Rattle.proxy_engines.proofs.FaultLemmas.{fault_later, fault_of_device, read_kept, either_idle, faulty_not_idle, faulty_calm, no_fault}
 use Rattle.proxy_engines.proofs.MoveLemmas.{moves-err, as_faulty, any_err}
 use Rattle.proxy_engines.proofs.link.Link.receive.Goals as goal
@@ -125,3 +125,21 @@ returns-in_err-after-clause-receives g c =
       writes = c.answer_all-2.ensures.answers.keeps.1 ∙ c.read-heard.ensures.reads.keeps.1 ∙ c.answer_all.ensures.answers.keeps.1;
       err = any_err _ c.from_residual-in_err-after.result c.in_err-after.ensures.answers.err;
     }
+
+pub returns-in_err-before-clause-untaken : goal.returns-in_err-before-clause-untaken
+returns-in_err-before-clause-untaken g c = c.answer_all.ensures.untaken
+
+pub returns-then-is_fault-clause-untaken : goal.returns-then-is_fault-clause-untaken
+returns-then-is_fault-clause-untaken g c = c.answer_all.ensures.untaken
+
+pub returns-then-is_fault-2-clause-untaken : goal.returns-then-is_fault-2-clause-untaken
+returns-then-is_fault-2-clause-untaken g c = c.answer_all.ensures.untaken
+
+pub returns-in_err-after-clause-untaken : goal.returns-in_err-after-clause-untaken
+returns-in_err-after-clause-untaken g c = gets_then _ _ _ c.answer_all.ensures.untaken c.answer_all-2.ensures.untaken
+
+pub returns-then-is_fault-3-clause-untaken : goal.returns-then-is_fault-3-clause-untaken
+returns-then-is_fault-3-clause-untaken g c = gets_then _ _ _ c.answer_all.ensures.untaken c.answer_all-2.ensures.untaken
+
+pub returns-clause-untaken : goal.returns-clause-untaken
+returns-clause-untaken g c = gets_then _ _ _ c.answer_all.ensures.untaken c.answer_all-2.ensures.untaken

@@ -7,38 +7,30 @@ use Rattle.proxy_history.specs.declared.refusal.Refusal.{Refusal}
 use Rattle.proxy_devices.specs.Device.{Counts, HasRisen}
 use Rattle.proxy_engines.specs.Ends.{InboxState}
 use Rattle.proxy_engines.specs.OneTurn.{HasHeld}
-use Rattle.proxy_engines.proofs.FaultLemmas.{either_idle, idle_then, not_late, faulty_not_idle, faulty_calm, fault_of_device, fault_later, no_fault}
+use Rattle.proxy_engines.proofs.FaultLemmas.{either_idle, idle_then, late_from, faulty_not_idle, faulty_calm, fault_of_device, fault_later, no_fault}
 use Rattle.proxy_engines.proofs.MoveLemmas.{moves-err, as_faulty, any_err}
 use Rattle.proxy_engines.proofs.link.Link.step.Goals as goal
 
 pub returns-in_err-received-clause-moves : goal.returns-in_err-received-clause-moves
 returns-in_err-received-clause-moves g c =
     record {
-      turns = keeps_then _ _ _ c.send.ensures.moves.turns c.receive.ensures.moves.turns;
-      goes = moves-err _ c.from_residual-in_err-received.result c.from_residual-in_err-received.ensures.0 (told_both _ _ _ _ _ _ _ _ _ _ _ _ c.send.ensures.moves.goes c.receive.ensures.moves.goes);
+      turns = keeps_then _ _ _ c.send.ensures.moves.turns c.receive_in_time.ensures.moves.turns;
+      goes = moves-err _ c.from_residual-in_err-received.result c.from_residual-in_err-received.ensures.0 (told_both _ _ _ _ _ _ _ _ _ _ _ _ c.send.ensures.moves.goes c.receive_in_time.ensures.moves.goes);
       plain = let (_, result_is, error_is) = err_from_is_err_and c.from_residual-in_err-received.result c.from_residual-in_err-received.ensures.1 in rw (result_is, error_is) (rw c.send.ensures.moves.turns.setting_is at c.in_err-received.ensures.moves.plain);
     }
 
 pub returns-then-is_fault-2-clause-moves : goal.returns-then-is_fault-2-clause-moves
 returns-then-is_fault-2-clause-moves g c =
     record {
-      turns = keeps_then _ _ _ c.send.ensures.moves.turns c.receive.ensures.moves.turns;
-      goes = as_faulty _ c.in_ok-received.received (sym c.is_fault-2.ensures ∙ c.if-is_fault-2.true) (told_both _ _ _ _ _ _ _ _ _ _ _ _ c.send.ensures.moves.goes c.receive.ensures.moves.goes);
-      plain = tt;
-    }
-
-pub returns-then-is_late-clause-moves : goal.returns-then-is_late-clause-moves
-returns-then-is_late-clause-moves g c =
-    record {
-      turns = keeps_then _ _ _ c.send.ensures.moves.turns c.receive.ensures.moves.turns;
-      goes = told_both _ _ _ _ _ _ _ _ _ _ _ _ c.send.ensures.moves.goes c.receive.ensures.moves.goes;
+      turns = keeps_then _ _ _ c.send.ensures.moves.turns c.receive_in_time.ensures.moves.turns;
+      goes = as_faulty _ c.in_ok-received.received (sym c.is_fault-2.ensures ∙ c.if-is_fault-2.true) (told_both _ _ _ _ _ _ _ _ _ _ _ _ c.send.ensures.moves.goes c.receive_in_time.ensures.moves.goes);
       plain = tt;
     }
 
 pub returns-clause-moves : goal.returns-clause-moves
 returns-clause-moves g c =
     record {
-      turns = keeps_then _ _ _ c.send.ensures.moves.turns c.receive.ensures.moves.turns;
+      turns = keeps_then _ _ _ c.send.ensures.moves.turns c.receive_in_time.ensures.moves.turns;
       goes = rw c.or.ensures.is (told_either _ _ _ _ _ _ _ _ _ _ c.in_ok-sent.sent c.in_ok-received.received c.in_ok-sent.ensures.moves.goes c.in_ok-received.ensures.moves.goes);
       plain = tt;
     }
@@ -66,16 +58,16 @@ returns-clause-works g c =
           let both = either_idle c.in_ok-sent.sent c.in_ok-received.received (sym c.or.ensures.is ∙ e) in
           let sent = c.in_ok-sent.ensures.sends.idle both.0 in
           let received = c.in_ok-received.ensures.receives.idle both.1 in (
-            subst (λ (i : InboxState). HasRisen i.counts.paused c.receive.new.self.inbox.counts.paused) c.send.ensures.sends.keeps.0 received,
-            subst (λ (n : Counts). HasRisen c.args.self.now.counts.paused n.paused ⊎ ((c.args.outbox.now.pending ≡ []) × HasHeld (g.T.Turns.cause (g.T.Turns.facts c.args.turns.now).setting Refusal.NothingWaiting) (Event.Taken c.args.outbox.now.host) (g.T.Turns.facts c.args.turns.now).seen (g.T.Turns.facts c.receive.new.turns).seen)) (sym c.receive.ensures.receives.writes)
-                (idle_then (g.T.Turns.cause (g.T.Turns.facts c.args.turns.now).setting Refusal.NothingWaiting) (Event.Taken c.args.outbox.now.host) _ _ _ _ _ c.send.ensures.moves.turns.begins c.receive.ensures.moves.turns.begins sent),
+            subst (λ (i : InboxState). HasRisen i.counts.paused c.receive_in_time.new.self.inbox.counts.paused) c.send.ensures.sends.keeps.0 received,
+            subst (λ (n : Counts). HasRisen c.args.self.now.counts.paused n.paused ⊎ ((c.args.outbox.now.pending ≡ []) × HasHeld (g.T.Turns.cause (g.T.Turns.facts c.args.turns.now).setting Refusal.NothingWaiting) (Event.Taken c.args.outbox.now.host) (g.T.Turns.facts c.args.turns.now).seen (g.T.Turns.facts c.receive_in_time.new.turns).seen)) (sym c.receive_in_time.ensures.receives.writes)
+                (idle_then (g.T.Turns.cause (g.T.Turns.facts c.args.turns.now).setting Refusal.NothingWaiting) (Event.Taken c.args.outbox.now.host) _ _ _ _ _ c.send.ensures.moves.turns.begins c.receive_in_time.ensures.moves.turns.begins sent),
           );
-      calm = λ calm. record {
-        all = (c.in_ok-received.ensures.receives.calm (sym c.is_fault-2.ensures ∙ c.if-is_fault-2.false)).all;
-        unfailed = let (failed, _) = (c.in_ok-received.ensures.receives.calm (sym c.is_fault-2.ensures ∙ c.if-is_fault-2.false)).reads in
-            (rw c.send.ensures.sends.keeps.0 at failed, ap (λ (n : Counts). n.failed) c.receive.ensures.receives.writes ∙ c.in_ok-sent.ensures.sends.writer (sym c.is_fault.ensures ∙ c.if-is_fault.false));
-        in_time = not_late c.receive.new.outbox c.args.moment c.is_late.result c.if-is_late.false c.is_late.ensures;
-      };
+      calm = λ _.
+          let calm = c.in_ok-received.ensures.receives.calm (sym c.is_fault-2.ensures ∙ c.if-is_fault-2.false) in record {
+            all = calm.all;
+            unfailed = (rw c.send.ensures.sends.keeps.0 at calm.unfailed.0, ap (λ (n : Counts). n.failed) c.receive_in_time.ensures.receives.writes ∙ c.in_ok-sent.ensures.sends.writer (sym c.is_fault.ensures ∙ c.if-is_fault.false));
+            in_time = calm.in_time;
+          };
       fault = no_fault c.or.result _ (c.or.ensures.calm (sym c.is_fault.ensures ∙ c.if-is_fault.false) (sym c.is_fault-2.ensures ∙ c.if-is_fault-2.false));
       err = tt;
     }
@@ -94,18 +86,7 @@ returns-then-is_fault-2-clause-works g c =
     record {
       idle = λ idle. faulty_not_idle _ c.in_ok-received.received (sym c.is_fault-2.ensures ∙ c.if-is_fault-2.true) idle;
       calm = λ calm. faulty_calm _ c.in_ok-received.received (sym c.is_fault-2.ensures ∙ c.if-is_fault-2.true) calm;
-      fault = fault_later c.args.self.now c.send.new.self c.receive.new.self _ _ ⊥ _ (ap (λ (i : InboxState). i.counts.failed) c.send.ensures.sends.keeps.0) (c.in_ok-sent.ensures.sends.writer (sym c.is_fault.ensures ∙ c.if-is_fault.false)) (λ x. x) (λ x. absurd x) c.in_ok-received.received (rw c.send.ensures.moves.turns.setting_is at c.in_ok-received.ensures.receives.fault);
-      err = tt;
-    }
-
-pub returns-then-is_late-clause-works : goal.returns-then-is_late-clause-works
-returns-then-is_late-clause-works g c =
-    record {
-      idle = λ idle. absurd cc;
-      calm = λ calm. absurd cc;
-      fault = let calm = sym c.is_fault-2.ensures ∙ c.if-is_fault-2.false in
-          let (none, all) = (c.in_ok-received.ensures.receives.calm calm).all in
-          record { late = c.is_late.ensures.0 c.if-is_late.true; reads = rw c.send.ensures.sends.keeps.0 at ((c.in_ok-received.ensures.receives.calm calm).reads); none_waits = none; all = all };
+      fault = fault_later c.args.self.now c.send.new.self c.receive_in_time.new.self _ _ _ _ (ap (λ (i : InboxState). i.counts.failed) c.send.ensures.sends.keeps.0) (c.in_ok-sent.ensures.sends.writer (sym c.is_fault.ensures ∙ c.if-is_fault.false)) (λ x. x) (late_from c.args.self.now c.send.new.self c.receive_in_time.new.self c.receive_in_time.new.outbox c.args.moment c.send.ensures.sends.keeps.0) c.in_ok-received.received (rw c.send.ensures.moves.turns.setting_is at c.in_ok-received.ensures.receives.fault);
       err = tt;
     }
 
