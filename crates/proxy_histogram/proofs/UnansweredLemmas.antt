@@ -1,7 +1,8 @@
 -- Moments of unanswered commands, run by run.
-use Rattle.std.proofs.Common.{◌≡◌, ◌≢◌, ℕ, zero, suc, ◌+◌, ◌-◌, ◌≤◌, ◌<◌, List, [], ◌∷◌, ◌++◌, Some, All, length, map, take, drop, replicate, flat_map, refl, sym, ap, ◌∙◌, append_assoc, append-nil, subst, rules, inl, inr, ◌⊎◌, Contains, get_or, min, ◌^◌, arith}
-use Rattle.std.specs.Prelude.{slice_get}
-use Rattle.std.proofs.lemmas.List.{map-append, drop-drop, length-append, length-replicate, take_all, take_more, replicate_more, get_or-append-add}
+use Rattle.std.proofs.Common.{◌≡◌, ◌≢◌, ℕ, zero, suc, ◌+◌, ◌-◌, ◌≤◌, ◌<◌, List, [], ◌∷◌, ◌++◌, Some, All, length, map, take, drop, replicate, flat_map, refl, sym, ap, ◌∙◌, append_assoc, append-nil, subst, rules, inl, inr, ◌⊎◌, Contains, get_or, min, ◌^◌, arith, Bool, true, false}
+use Rattle.std.specs.Prelude.{slice_get, ◌&&◌}
+use Rattle.std.specs.Bool.{OnTrue, OnFalse}
+use Rattle.std.proofs.lemmas.List.{map-append, drop-drop, length-append, length-replicate, length-take, take_all, take_more, replicate_more, get_or-append-add}
 use Rattle.std.proofs.lemmas.List.Elements.{All-append, All-contains, All-contains_itself, All-cons, All-weaker, Contains-append_left, Contains-append_right}
 use Rattle.std.proofs.lemmas.Option.{slice_get-get_or}
 use Rattle.std.proofs.Math.Seq.{take-add}
@@ -78,6 +79,44 @@ answers_all old mid now k m h h' done none within =
       left = none ∙ sym (ap (λ n. drop n old) sum ∙ sym (drop-drop (m - k) k old) ∙ drop_none (m - k) (drop k old) rest);
       recorded = λ values is. rw first (done.recorded values is);
     }
+
+-- one run more is taken
+pub take_next : (old mid new : List ℕ) (k n since : ℕ) → mid ≡ drop k old → mid ≡ replicate n since ++ new
+    → (new ≡ drop (k + n) old) × (take (k + n) old ≡ take k old ++ replicate n since)
+take_next old mid new k n since done taken =
+    let rest : drop k old ≡ replicate n since ++ new = sym done ∙ taken in (
+      sym (sym (drop-drop n k old) ∙ ap (drop n) rest ∙ drop_run n since new),
+      take-add k n old ∙ ap (λ l. take k old ++ l) (ap (take n) rest ∙ take_run n since new),
+    )
+
+-- once none more is taken
+pub take_end : (old mid : List ℕ) (count left : ℕ) → mid ≡ drop (count - left) old → (left ≡ 0) ⊎ (mid ≡ []) → left ≤ count
+    → take count old ≡ take (count - left) old
+take_end old mid count left done (inl over) within = let all : count ≡ count - left = omega (arith, over) in ap (λ n. take n old) all
+take_end old mid count left done (inr none) within =
+    let sum : count ≡ (count - left) + left = omega (arith, within) in
+    ap (λ n. take n old) sum ∙ take-add (count - left) left old
+    ∙ ap (λ l. take (count - left) old ++ l) (take_none left (drop (count - left) old) (sym done ∙ none))
+    ∙ append-nil (take (count - left) old)
+
+-- no more than so many are taken
+pub take_short : (n : ℕ) (xs : List ℕ) → length (take n xs) ≤ n
+take_short n xs = omega (arith, length-take n xs)
+
+-- further ones were added, each at its moment, or some with the last one before them
+pub added_or_joined : (b : Bool) (old new : List ℕ) (n since : ℕ) → OnTrue b (new ≡ old ++ replicate n since) → OnFalse b (JoinsLast old new n)
+    → length new ≡ length old + n
+added_or_joined true old new n since added joined =
+    ap length added ∙ length-append old (replicate n since) ∙ ap (λ k. length old + k) (length-replicate n since)
+added_or_joined false old new n since added joined =
+    ap length joined.added ∙ length-append old (replicate n joined.moment) ∙ ap (λ k. length old + k) (length-replicate n joined.moment)
+
+-- all of them were added at their moments, in two calls
+pub added_both : (a b : Bool) (xs ys zs : List ℕ) (x y z : List ℕ) → OnTrue a (ys ≡ xs ++ x) → OnTrue b (zs ≡ ys ++ y) → z ≡ x ++ y
+    → OnTrue (a && b) (zs ≡ xs ++ z)
+added_both true true xs ys zs x y z first next is = next ∙ ap (λ l. l ++ y) first ∙ append_assoc xs x y ∙ ap (λ l. xs ++ l) (sym is)
+added_both true false xs ys zs x y z first next is = tt
+added_both false b xs ys zs x y z first next is = tt
 
 -- a run, a part of which is taken
 pub taken_of_run : (run : Run) (later : List Run) (n : ℕ) → n ≤ run.count

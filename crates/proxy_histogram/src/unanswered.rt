@@ -1,4 +1,4 @@
-ghost use Rattle.std.specs.Prelude.{◌≡◌, ◌≢◌, ◌≤◌, ◌<◌, ◌+◌, ◌-◌, ◌^◌, ◌⊎◌, ◌++◌, [], Some, length, replicate, slice_get};
+ghost use Rattle.std.specs.Prelude.{◌≡◌, ◌≢◌, ◌≤◌, ◌<◌, ◌+◌, ◌-◌, ◌^◌, ◌⊎◌, ◌++◌, [], Some, drop, length, replicate, slice_get, take};
 ghost use Rattle.std.specs.Bool.{OnTrue, OnFalse};
 ghost use Rattle.proxy_histogram.specs.Unanswered.{AnswersOldest, JoinsLast};
 
@@ -111,6 +111,28 @@ impl Unanswered {
             durations.record_times(now.saturating_sub(run.since), run.count);
             left -= run.count;
         }
+    }
+
+    /// Moves this many of the oldest behind others, or all where fewer are unanswered. False: there was no memory, and some
+    /// of them count as accepted with those before them.
+    pub fn move_oldest(&mut self, count: u64, others: &mut Unanswered) -> bool
+        ensures left { self.new ≡ drop count self.old }
+        ensures moved { length others.old + count < 2 ^ 64
+            → OnTrue result (others.new ≡ others.old ++ take count self.old) }
+        ensures joined { length others.old + count < 2 ^ 64
+            → length others.new ≡ length others.old + length (take count self.old) }
+    {
+        let mut left = count;
+        let mut had_memory = true;
+        for _run in 0..count {
+            let run = self.take_first(left);
+            if run.count == 0 {
+                return had_memory;
+            }
+            had_memory &= others.accepted(run.since, run.count);
+            left -= run.count;
+        }
+        had_memory
     }
 
     /// Forgets all unanswered commands: they get no answer.

@@ -9,3 +9,4 @@ pub mod Idleness
 pub mod RefusedSockets
 pub mod DrainPlan
 pub mod StalledBids
+pub mod Arrivals

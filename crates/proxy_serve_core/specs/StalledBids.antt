@@ -1,6 +1,7 @@
 -- Which worker is to close a stalled client.
-use Rattle.std.specs.Prelude.{◌≤◌, ◌<◌, ◌+◌, ◌-◌, ◌==◌, ◌&&◌, ◌++◌, if◌then◌else◌, nat_lt, not, ℕ, Bool, List, [], ◌∷◌, filter}
+use Rattle.std.specs.Prelude.{◌≤◌, ◌<◌, ◌+◌, ◌-◌, ◌==◌, ◌&&◌, ◌++◌, if◌then◌else◌, nat_lt, not, ℕ, Bool, List, [], ◌∷◌, filter, slice_get, unwrap_or}
 use Rattle.std.specs.List.{All}
+use Rattle.std.specs.Option.{option_map}
 use Rattle.proxy_serve_core.specs.declared.stalled_bids.StalledBid.{StalledBid}
 use Rattle.proxy_serve_core.specs.declared.stalled_bids.TheConstants.{BID_STANDS_MS, BID_WAITS_MS}
 
@@ -16,11 +17,13 @@ is_standing_beside bidder now bid = stands now bid && not (bid.bidder == bidder)
 abbrev pub standing_beside : ℕ → ℕ → List StalledBid → List StalledBid
 standing_beside bidder now bids = filter (is_standing_beside bidder now) bids
 
--- since when the bidder's bid stands: the moment of the first of its bids without a break; now, if it has none
+-- a bid of this bidder for some bytes that stands
+abbrev pub is_standing_of : ℕ → ℕ → StalledBid → Bool
+is_standing_of bidder now bid = bid.bidder == bidder && nat_lt 0 bid.bytes && stands now bid
+
+-- since when the bidder bids: since its bid that stands was made first; since now, if none stands
 abbrev pub since_of : ℕ → ℕ → List StalledBid → ℕ
-since_of bidder now [] = now
-since_of bidder now (bid ∷ bids) =
-    if bid.bidder == bidder && nat_lt 0 bid.bytes && stands now bid then bid.since else since_of bidder now bids
+since_of bidder now bids = unwrap_or (option_map (λ bid. bid.since) (slice_get (filter (is_standing_of bidder now) bids) 0)) now
 
 -- the bid that a bidder makes
 abbrev pub own_bid : ℕ → ℕ → ℕ → List StalledBid → StalledBid

@@ -2,6 +2,7 @@
 //! clients a round looks at.
 #![tactic(auto)]
 
+mod arrivals;
 mod drain_plan;
 mod ejection_log;
 mod fault_log;
@@ -15,6 +16,7 @@ mod round_robin;
 mod signals;
 mod stalled_bids;
 
+pub use arrivals::{Arrivals, WAITED_US};
 pub use drain_plan::{DrainOrder, DrainPlan};
 pub use ejection_log::{EjectedHost, EjectionLog, EjectionReason};
 pub use fault_log::{CauseFaults, FaultCause, FaultLog, HostFaults, LinkLoss};
