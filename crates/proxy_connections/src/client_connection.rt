@@ -42,7 +42,7 @@ type Engine = ClientEngine<Reader, Writer>;
 pub(crate) struct ClientRound<'a> {
     pub(crate) room: &'a JournalRoom,
     pub(crate) now: u64,
-    pub(crate) now_us: u64,
+    pub(crate) came_us: u64,
     /// Steps of the journal that the worker keeps for its links.
     pub(crate) reserve: u64,
     pub(crate) most_parts: u64,
@@ -72,6 +72,8 @@ pub(crate) struct Opening<'a> {
 pub(crate) struct Lent {
     /// Empty while no socket has output.
     pub(crate) buffer: Vec<u8>,
+    /// The commands that were answered in this round.
+    pub(crate) answered: Unanswered,
     pub(crate) durations: Histogram,
 }
 
@@ -653,9 +655,9 @@ impl ClientConnection {
         self.set_bound(round);
         let stepped = self.step_engine(rt, turns, round);
         let counts = turns.leave_with_counts();
-        self.waits.accepted(round.now_us, counts.accepted);
+        self.waits.accepted(round.came_us, counts.accepted);
         self.waits
-            .answered(round.now_us, counts.handed.count, &mut lent.durations);
+            .move_oldest(counts.handed.count, &mut lent.answered);
         self.note_replies(round.room, counts);
         self.lower_charge(rt, turns, round.room);
         self.count_unfinished_bytes(round.room, counts);

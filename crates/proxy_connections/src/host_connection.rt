@@ -426,7 +426,7 @@ impl HostConnection {
     {
         self.give_up_if_due(rt, turns, round)?;
         let before = *turns.counts();
-        let stepped = self.send_and_step(rt, turns, round.now);
+        let stepped = self.send_and_step(rt, turns, round);
         self.note_step(&before, turns.counts());
         match stepped {
             Ok(progress) => Ok(progress),
@@ -437,11 +437,12 @@ impl HostConnection {
         }
     }
 
+    // What one read brings is answered in one stay inside the gate, and the read itself is made outside.
     fn send_and_step<R: Wait, T: HeldTurns>(
         &mut self,
         rt: &R,
         turns: &mut MeteredTurns<T>,
-        now: u64,
+        round: HostRound<'_>,
     ) -> Result<Progress, EngineError>
         ensures needs_link { IfOk result (λ p. p ≡ Progress.NeedsLink
             → (self.new.engine.link ≡ None) × (self.new.engine.fault ≡ None)) }
@@ -451,12 +452,20 @@ impl HostConnection {
         ensures address { self.new.link ≡ self.old.link }
     {
         turns.hold();
-        self.send_all(rt, turns, now)?;
+        self.send_all(rt, turns, round)?;
         self.is_asked |= self.engine.awaits_reply();
-        if self.may_read() {
-            turns.leave();
+        if !self.may_read() && !self.holds_parts_back(round) {
+            return self.engine.step(rt, turns, round.now);
         }
-        self.engine.step(rt, turns, now)
+        turns.leave();
+        turns.hold();
+        self.engine.receive(rt, turns, round.now)
+    }
+
+    // Once a reply of the generation has found no room, a host gets further parts only when it has answered all that was sent:
+    // so fewer were carried out of those that fail with the next one without room.
+    fn holds_parts_back(&self, round: HostRound<'_>) -> bool {
+        round.room.ran_short() && self.engine.awaits_reply() && self.engine.reader().is_some()
     }
 
     fn may_read(&self) -> bool {
@@ -466,12 +475,12 @@ impl HostConnection {
         }
     }
 
-    // It stops after `MAX_HOST_STEPS` sends.
+    // It stops after `MAX_HOST_STEPS` sends. While parts are held back only the last one that was taken is written to its end.
     fn send_all<R: Wait, T: HeldTurns>(
         &mut self,
         rt: &R,
         turns: &mut MeteredTurns<T>,
-        now: u64,
+        round: HostRound<'_>,
     ) -> Result<(), EngineError>
         ensures keeps { KeepsHost (ends_of self.old.engine) (ends_of self.new.engine)
             (own_history (T.facts turns.old.turns))
@@ -479,7 +488,10 @@ impl HostConnection {
         ensures address { self.new.link ≡ self.old.link }
     {
         for _ in 0..MAX_HOST_STEPS {
-            let Progress::Moved = self.engine.send(rt, turns, now)? else {
+            if !self.engine.has_pending() && self.holds_parts_back(round) {
+                return Ok(());
+            }
+            let Progress::Moved = self.engine.send(rt, turns, round.now)? else {
                 return Ok(());
             };
         }

@@ -15,8 +15,10 @@ pub struct Round<'a> {
     pub registry: &'a Registry,
     /// The round's moment, in milliseconds.
     pub now: u64,
-    /// The moment for durations, in microseconds: the round's, or a later one that was read in it.
+    /// The moment for hosts' durations, in microseconds: the round's, or a later one that was read in it.
     pub now_us: u64,
+    /// Since when what clients are read may have come, in microseconds.
+    pub came_us: u64,
     /// The most parts that one client may queue in it.
     pub most_parts: u64,
     /// Whether the hosts' waiting parts are given up.

@@ -22,7 +22,7 @@ use mio::{Registry, Token};
 use open_sockets::{AdmittedStream, WorkerTraffic};
 use proxy_config::Config;
 use proxy_exit_status::Ending;
-use proxy_histogram::Histogram;
+use proxy_histogram::{Histogram, Unanswered};
 use proxy_notices::{MAX_WORDS, Notices, Place};
 use proxy_serve_core::ReadyClients;
 use proxy_stats::TalliedCore;
@@ -164,6 +164,7 @@ impl<'a> WorkerConnections<'a> {
             stirred: 0,
             lent: Lent {
                 buffer: Vec::new(alloc),
+                answered: Unanswered::new(alloc),
                 durations: Histogram::new(),
             },
             traffic,
@@ -287,7 +288,17 @@ impl<'a> WorkerConnections<'a> {
         bits
     }
 
-    /// Takes the durations of commands since the last call.
+    /// The answers handed out since the last call were written by this moment, in microseconds: their commands' durations are
+    /// counted.
+    pub fn count_answered(&mut self, now_us: u64)
+        ensures { self.new ≡ self.old }
+    {
+        self.lent
+            .answered
+            .answered(now_us, u64::MAX, &mut self.lent.durations);
+    }
+
+    /// Takes the durations of commands counted since the last call.
     pub fn take_durations(&mut self) -> Histogram
         ensures { self.new ≡ self.old }
     {
@@ -579,7 +590,7 @@ fn client_round(round: Round<'_>, reserve: u64) -> ClientRound<'_> {
     ClientRound {
         room: round.room,
         now: round.now,
-        now_us: round.now_us,
+        came_us: round.came_us,
         reserve,
         most_parts: round.most_parts,
         carries_over: round.carries_over,

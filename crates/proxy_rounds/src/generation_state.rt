@@ -229,12 +229,14 @@ impl<'a> GenerationState<'a> {
         !self.phase().may_accept() && !self.room.has_connections()
     }
 
-    /// A round at this moment of the worker whose sockets are registered here.
+    /// A round at this moment of the worker whose sockets are registered here. What clients are read may have come since
+    /// `came_us`.
     pub(crate) fn round<'r>(
         &'r self,
         registry: &'r Registry,
         mode: Mode,
         now: Moment,
+        came_us: u64,
     ) -> Round<'r> {
         Round {
             room: &self.room,
@@ -242,6 +244,7 @@ impl<'a> GenerationState<'a> {
             registry,
             now: now.ms,
             now_us: now.us,
+            came_us,
             most_parts: self.most_parts,
             gives_up: mode.gives_up,
             ends_inputs: mode.ends_inputs,

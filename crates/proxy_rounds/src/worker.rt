@@ -1,15 +1,14 @@
 //! A worker: a thread that has a poll and steps its clients and hosts.
-ghost use Rattle.std.specs.Prelude.{◌≡◌, [], IfOk};
+ghost use Rattle.std.specs.Prelude.{◌≡◌, [], IfSome};
 ghost use Rattle.proxy_connections.specs.WorkerConnections.{steps_of};
 
 use crate::generation_state::{GenerationState, ThreadContext};
 use mio::event::Event;
 use mio::{Events, Poll, Token};
 use proxy_connections::{ConnectionSetup, HOSTS, StepError, WorkerConnections};
-use proxy_exit_status::Ending;
 use proxy_generations::{Change, Mode, Phase};
 use proxy_notices::Place;
-use proxy_serve_core::Refusals;
+use proxy_serve_core::{Arrivals, Refusals};
 use proxy_server::{Moment, Stop};
 use proxy_stats::TalliedCore;
 use std::marker::Model;
@@ -115,14 +114,14 @@ impl<'a> WorkerSetup<'a> {
             return;
         };
         match self.worker() {
-            Ok(worker) => worker.run(rt, events),
-            Err(_) => generation.abandon_start(),
+            Some(worker) => worker.run(rt, events),
+            None => generation.abandon_start(),
         }
     }
 
-    // The worker with its hosts and no clients; ends with `Memory` where there is none for the hosts.
-    fn worker(self) -> Result<Worker<'a>, Ending>
-        ensures { IfOk result (λ worker. worker.connections.place ≡ self.entry.place) }
+    // The worker with its hosts and no clients. `None`: there is no memory for the hosts, or its line has no such worker.
+    fn worker(self) -> Option<Worker<'a>>
+        ensures { IfSome result (λ worker. worker.connections.place ≡ self.entry.place) }
     {
         let WorkerSetup {
             context,
@@ -137,21 +136,22 @@ impl<'a> WorkerSetup<'a> {
             behind,
             marks: _,
         } = context;
-        let Some(traffic) = generation.line().traffic(place.index) else {
-            return Err(Ending::Memory);
-        };
+        let traffic = generation.line().traffic(place.index)?;
         let setup = ConnectionSetup {
             alloc,
             config,
             traffic,
         };
-        Ok(Worker {
+        let connections = WorkerConnections::new(setup, place, behind, seat).ok()?;
+        Some(Worker {
             poll,
             generation,
-            connections: WorkerConnections::new(setup, place, behind, seat)?,
+            connections,
             reply_ms: config.reply_ms,
             opening: Refusals::new(),
             now: Moment::FIRST,
+            arrivals: Arrivals::new(0),
+            came_us: 0,
             lacks_memory: false,
             undrained: 0,
             may_have_sockets: true,
@@ -196,8 +196,11 @@ struct Worker<'a> {
     reply_ms: u32,
     // Consecutive refusals of memory to the first socket in the queue.
     opening: Refusals,
-    // Read once a round, and the microseconds again before what clients brought is sent.
+    // Read behind the poll, and the microseconds again before what clients brought is sent.
     now: Moment,
+    arrivals: Arrivals,
+    // Since when what clients are read may have come.
+    came_us: u64,
     // Something in this round found no memory.
     lacks_memory: bool,
     // The first client that may not drain yet, once the worker does.
@@ -225,6 +228,8 @@ impl Drop for Worker<'_> {
             reply_ms: _,
             opening: _,
             now: _,
+            arrivals: _,
+            came_us: _,
             lacks_memory: _,
             undrained: _,
             may_have_sockets: _,
@@ -262,12 +267,13 @@ impl<'a> Worker<'a> {
         mut events: Events,
     ) -> Result<(), Stop> {
         let mut pause = 0;
+        self.arrivals = Arrivals::new(Moment::now(rt).us);
         self.settle(rt);
         for _ in rt.forever() {
             if self.follow_phase() == Phase::Stopped {
                 return self.finish(rt, &mut events);
             }
-            self.wait(&mut events, pause)?;
+            self.wait(rt, &mut events, pause)?;
             let is_last = self.may_end();
             if is_last {
                 // (no part may depend on a notice)
@@ -315,8 +321,11 @@ impl<'a> Worker<'a> {
         Remaining::work_if(end < capacity)
     }
 
-    fn wait(&mut self, events: &mut Events, pause: u64) -> Result<(), Stop> {
+    fn wait<R: Clock>(&mut self, rt: &R, events: &mut Events, pause: u64) -> Result<(), Stop> {
+        let called = Moment::now(rt).us;
         let polled = self.poll.poll(events, Some(Duration::from_millis(pause)));
+        self.now = Moment::now(rt);
+        self.came_us = self.arrivals.polled(called, self.now.us);
         if let Some(worker) = self.generation.worker(self.index()) {
             worker.mark_awake();
         }
@@ -345,7 +354,7 @@ impl<'a> Worker<'a> {
                 break;
             }
             let pause = self.pause(remaining).min(LAST_PAUSE_MS);
-            self.wait(events, pause)?;
+            self.wait(rt, events, pause)?;
         }
         Ok(())
     }
@@ -413,7 +422,6 @@ impl<'a> Worker<'a> {
     }
 
     fn make_round<R: Wait + Net + Clock + Eprint>(&mut self, rt: &R) -> Result<Remaining, Stop> {
-        self.now = Moment::now(rt);
         self.lacks_memory = false;
         if self.may_have_sockets || self.now.ms.saturating_sub(self.accepted_at) >= QUEUE_MS {
             self.accepted_at = self.now.ms;
@@ -437,6 +445,7 @@ impl<'a> Worker<'a> {
         let hosts = self.step_hosts(rt)?;
         let clients = self.step_clients(rt)?;
         self.now.us = Moment::now(rt).us;
+        self.connections.count_answered(self.now.us);
         let after = self.step_hosts(rt)?;
         Ok(hosts.or(clients).or(after))
     }

@@ -46,7 +46,7 @@ impl Worker<'_> {
         for key in 0..self.connections.capacity() {
             let round = self
                 .generation
-                .round(self.poll.registry(), self.mode, self.now);
+                .round(self.poll.registry(), self.mode, self.now, self.came_us);
             self.connections.end_idle(round, key);
         }
     }

@@ -99,7 +99,7 @@ impl Worker<'_> {
     {
         let round = self
             .generation
-            .round(self.poll.registry(), self.mode, self.now);
+            .round(self.poll.registry(), self.mode, self.now, self.came_us);
         match self
             .connections
             .open_carried(rt, round, carried, connection)
@@ -146,7 +146,7 @@ impl Worker<'_> {
         }
         let round = self
             .generation
-            .round(self.poll.registry(), self.mode, self.now);
+            .round(self.poll.registry(), self.mode, self.now, self.came_us);
         match self.connections.open(rt, round, stream, connection) {
             Ok(()) => self.opening.succeeded(),
             Err(error) => self.handle_open_error(error)?,

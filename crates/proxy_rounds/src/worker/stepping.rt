@@ -29,7 +29,7 @@ impl Worker<'_> {
     ) -> Result<Remaining, Stop> {
         let round = self
             .generation
-            .round(self.poll.registry(), self.mode, self.now);
+            .round(self.poll.registry(), self.mode, self.now, self.came_us);
         let Some(
             HostResult {
                 stepped,
@@ -163,7 +163,7 @@ impl Worker<'_> {
         }
         let round = self
             .generation
-            .round(self.poll.registry(), self.mode, self.now);
+            .round(self.poll.registry(), self.mode, self.now, self.came_us);
         let carried = self.connections.carry(round, key);
         line.carry(rt, self.index(), carried);
         Ok(Remaining::Nothing)
@@ -175,7 +175,7 @@ impl Worker<'_> {
         }
         let round = self
             .generation
-            .round(self.poll.registry(), self.mode, self.now);
+            .round(self.poll.registry(), self.mode, self.now, self.came_us);
         let Some(
             ClientResult {
                 stepped,

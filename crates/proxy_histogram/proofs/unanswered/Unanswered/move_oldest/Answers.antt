@@ -29,14 +29,14 @@ loop-run-preserved c =
     let sum : c.args.count - c.loop-run.left + n ≡ c.args.count - (c.loop-run.left - n) = omega (arith, few, within) in
     let first = rw sum at next.1 in
     let number : length (take (c.args.count - (c.loop-run.left - n)) c.args.self.now) ≡ length (take (c.args.count - c.loop-run.left) c.args.self.now) + n =
-        ap length first ∙ length-append (take (c.args.count - c.loop-run.left) c.args.self.now) (replicate n since)
-        ∙ ap (λ k. length (take (c.args.count - c.loop-run.left) c.args.self.now) + k) (length-replicate n since) in (
+    ap length first ∙ length-append (take (c.args.count - c.loop-run.left) c.args.self.now) (replicate n since)
+    ∙ ap (λ k. length (take (c.args.count - c.loop-run.left) c.args.self.now) + k) (length-replicate n since) in (
       rw sum at next.0,
       λ fits. added_both c.loop-run.had_memory c.accepted-had_memory.result c.args.others.now c.loop-run.others c.accepted-had_memory.new.self
           (take (c.args.count - c.loop-run.left) c.args.self.now) (replicate n since) _ (moved fits) (c.accepted-had_memory.ensures.added (omega (arith, few, within, short, fits, joined fits))) first,
       λ fits.
           let longer = added_or_joined c.accepted-had_memory.result c.loop-run.others c.accepted-had_memory.new.self n since
-              (c.accepted-had_memory.ensures.added (omega (arith, few, within, short, fits, joined fits))) (c.accepted-had_memory.ensures.joined (omega (arith, few, within, short, fits, joined fits))) in
+          (c.accepted-had_memory.ensures.added (omega (arith, few, within, short, fits, joined fits))) (c.accepted-had_memory.ensures.joined (omega (arith, few, within, short, fits, joined fits))) in
           omega (arith, longer, joined fits, number),
       omega (arith, few, within, some),
     )
