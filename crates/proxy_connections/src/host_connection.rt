@@ -426,7 +426,7 @@ impl HostConnection {
     {
         self.give_up_if_due(rt, turns, round)?;
         let before = *turns.counts();
-        let stepped = self.send_and_step(rt, turns, round);
+        let stepped = self.send_and_step(rt, turns, round.now);
         self.note_step(&before, turns.counts());
         match stepped {
             Ok(progress) => Ok(progress),
@@ -442,7 +442,7 @@ impl HostConnection {
         &mut self,
         rt: &R,
         turns: &mut MeteredTurns<T>,
-        round: HostRound<'_>,
+        now: u64,
     ) -> Result<Progress, EngineError>
         ensures needs_link { IfOk result (λ p. p ≡ Progress.NeedsLink
             → (self.new.engine.link ≡ None) × (self.new.engine.fault ≡ None)) }
@@ -452,20 +452,14 @@ impl HostConnection {
         ensures address { self.new.link ≡ self.old.link }
     {
         turns.hold();
-        self.send_all(rt, turns, round)?;
+        self.send_all(rt, turns, now)?;
         self.is_asked |= self.engine.awaits_reply();
-        if !self.may_read() && !self.holds_parts_back(round) {
-            return self.engine.step(rt, turns, round.now);
+        if !self.may_read() {
+            return self.engine.step(rt, turns, now);
         }
         turns.leave();
         turns.hold();
-        self.engine.receive(rt, turns, round.now)
-    }
-
-    // Once a reply of the generation has found no room, a host gets further parts only when it has answered all that was sent:
-    // so fewer were carried out of those that fail with the next one without room.
-    fn holds_parts_back(&self, round: HostRound<'_>) -> bool {
-        round.room.ran_short() && self.engine.awaits_reply() && self.engine.reader().is_some()
+        self.engine.receive(rt, turns, now)
     }
 
     fn may_read(&self) -> bool {
@@ -475,12 +469,12 @@ impl HostConnection {
         }
     }
 
-    // It stops after `MAX_HOST_STEPS` sends. While parts are held back only the last one that was taken is written to its end.
+    // It stops after `MAX_HOST_STEPS` sends.
     fn send_all<R: Wait, T: HeldTurns>(
         &mut self,
         rt: &R,
         turns: &mut MeteredTurns<T>,
-        round: HostRound<'_>,
+        now: u64,
     ) -> Result<(), EngineError>
         ensures keeps { KeepsHost (ends_of self.old.engine) (ends_of self.new.engine)
             (own_history (T.facts turns.old.turns))
@@ -488,10 +482,7 @@ impl HostConnection {
         ensures address { self.new.link ≡ self.old.link }
     {
         for _ in 0..MAX_HOST_STEPS {
-            if !self.engine.has_pending() && self.holds_parts_back(round) {
-                return Ok(());
-            }
-            let Progress::Moved = self.engine.send(rt, turns, round.now)? else {
+            let Progress::Moved = self.engine.send(rt, turns, now)? else {
                 return Ok(());
             };
         }

@@ -126,13 +126,6 @@ impl<R: ReadTally + Drop, W: WriteTally + Drop> HostEngine<R, W> {
         self.outbox.awaits_reply()
     }
 
-    /// Whether bytes of a part that was taken are still to be written.
-    pub fn has_pending(&self) -> bool
-        ensures { IsTrue result ↔ self.now.outbox.pending ≢ [] }
-    {
-        !self.outbox.is_empty()
-    }
-
     /// Why the last link ended, or none was made; `None` before the first fault.
     pub fn last_fault(&self) -> Option<LinkFault>
         ensures { result ≡ self.now.last_fault }
