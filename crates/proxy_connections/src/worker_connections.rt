@@ -288,8 +288,7 @@ impl<'a> WorkerConnections<'a> {
         bits
     }
 
-    /// The answers handed out since the last call were written by this moment, in microseconds: their commands' durations are
-    /// counted.
+    /// Counts the durations of the commands answered since the last call, as of this moment, in microseconds.
     pub fn count_answered(&mut self, now_us: u64)
         ensures { self.new ≡ self.old }
     {

@@ -489,12 +489,9 @@ impl<R: ReadTally + Drop, W: WriteTally + Drop> HostEngine<R, W> {
         after_fault(self.go_on(rt, turns, moment))
     }
 
-    /// Reads at this moment, in milliseconds, and sends nothing: on a link it makes a reply of each value read, reads
-    /// once, and makes a reply of each value that came. Last, a late reply is a fault. `Idle`: the reader paused, or
-    /// there is no link. So all replies of one read can be made in one stay inside a gate.
-    ///
-    /// Where an earlier fault is to be recorded first it makes a [`step`](HostEngine::step). Faults, and what is
-    /// refused, are as there.
+    /// Makes the part of a [`step`](HostEngine::step) that reads, at this moment in milliseconds, and sends nothing; or a
+    /// whole one where an earlier fault is to be recorded. `Idle`: the reader paused, or there is no link. So all replies
+    /// of one read can be made in one stay inside a gate.
     pub fn receive<Rt: Wait, T: CoreTurns>(
         &mut self,
         rt: &Rt,

@@ -30,7 +30,7 @@ impl Arrivals {
     }
 
     /// The poll was called and returned at these moments, in microseconds. Since when what it reports may have come: since it
-    /// returned, if it waited; else since the one before it returned.
+    /// returned, if it waited; else since the one before did.
     pub fn polled(&mut self, called: u64, returned: u64) -> u64
         ensures earliest { result ≡ earliest self.old called returned }
         ensures last { self.new ≡ returned }
