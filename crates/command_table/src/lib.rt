@@ -13,12 +13,14 @@ ghost use Rattle.command_table.specs.Entry.{row_of};
 mod entries;
 mod laws;
 mod names;
+mod usual;
 
 use entries::own_entry;
 pub use laws::{
     each_row_is_found, found_stands_in_table, names_are_distinct, names_are_lower_case,
 };
 use names::one_key_entry;
+use usual::usual_entry;
 
 /// How the proxy handles a command.
 #[derive(Clone, Copy, Debug, PartialEq, Eq, Hash)]
@@ -59,5 +61,8 @@ pub fn look(name: &[u8]) -> Option<Entry>
     ensures unknown { IfNone result (All (λ r. str_to_ascii_lowercase name.now ≢ r.name) rows) }
     ensures row { option_map row_of result ≡ row_named name.now }
 {
+    if let Some(entry) = usual_entry(name) {
+        return Some(entry);
+    }
     own_entry(name).or_else(|| one_key_entry(name))
 }

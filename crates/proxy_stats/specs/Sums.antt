@@ -6,7 +6,7 @@ use Rattle.proxy_history.specs.declared.event.Event.{Event}
 use Rattle.proxy_history.specs.declared.answer.Answer.{Answer}
 use Rattle.proxy_stats.specs.declared.tally.Counts.{Counts}
 use Rattle.proxy_stats.specs.declared.tally.HostCounts.{HostCounts}
-use Rattle.proxy_stats.specs.Amounts.{arrivals, handings, takings, replies, failures, lost_parts, ejected_hosts, kept_hosts, hostless_parts, busy_parts, own_answers, of_host, arrivals_in, handings_in, takings_in, replies_in, lost_in, ejected_by, kept_by, ejected_in, kept_in, hostless_in, busy_in}
+use Rattle.proxy_stats.specs.Amounts.{arrivals, handings, takings, replies, failures, lost_parts, ejected_hosts, kept_hosts, hostless_parts, busy_parts, own_answers, of_host, arrivals_in, handings_in, takings_in, replies_in, failures_in, is_event_of, lost_in, ejected_by, kept_by, ejected_in, kept_in, hostless_in, busy_in}
 
 -- the counts of host h, each the sum over the steps, as `told` tells it
 pub record AreHostCountsBy (told : ℕ → ℕ) (steps : List Step) (h : ℕ) (c : HostCounts) : Type 0 where
@@ -74,6 +74,18 @@ pub record AreHostsGrown (old : HostCounts) (h : ℕ) (step : Step) (new : HostC
   pub answered : new.answered ≡ grown_sum old.answered (of_host h replies step)
   pub faults : new.faults ≡ grown_sum old.faults (of_host h failures step)
   pub lost : new.lost ≡ grown_sum old.lost (of_host h lost_parts step)
+
+-- a host's numbers with so many more of each
+pub record AreHostsGrownBy (old : HostCounts) (more_sent more_answered more_faults more_lost : ℕ) (new : HostCounts) : Type 0 where
+  pub sent : new.sent ≡ grown_sum old.sent more_sent
+  pub answered : new.answered ≡ grown_sum old.answered more_answered
+  pub faults : new.faults ≡ grown_sum old.faults more_faults
+  pub lost : new.lost ≡ grown_sum old.lost more_lost
+
+-- a host's numbers with those of one event
+abbrev pub AreHostsGrownByEvent : HostCounts → ℕ → Event → HostCounts → Type 0
+AreHostsGrownByEvent old h e new =
+    AreHostsGrownBy old (if is_event_of h e then takings_in e else 0) (if is_event_of h e then replies_in e else 0) (if is_event_of h e then failures_in e else 0) 0 new
 
 -- the counts with one step more
 pub record AreGrown (old : Counts) (step : Step) (new : Counts) : Type 0 where
