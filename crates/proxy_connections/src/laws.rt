@@ -17,8 +17,8 @@ pub fn passes_share_no_host()
     ensures { PassesShareNoHost }
 {}
 
-/// Each worker has a place of its own, and a pass that made steps of its place's hosts alone; other passes made none. Then at
-/// each moment of the gate no two passes have made steps of one host, and the steps of its one pass tell all of it.
+/// Each worker has a place of its own, and a pass that made steps of its place's hosts alone; other passes made none. Then
+/// each host has one pass at each moment of the gate, whose steps tell all of it.
 pub fn hosts_have_their_workers()
     ensures { HostsHaveTheirWorkers }
 {}

@@ -113,8 +113,8 @@ impl Unanswered {
         }
     }
 
-    /// Moves this many of the oldest behind others, or all where fewer are unanswered. False: there was no memory, and some
-    /// of them count as accepted with those before them.
+    /// Moves this many of the oldest behind others, or all there are. False: there was no memory, and some count as
+    /// accepted with those before them.
     pub fn move_oldest(&mut self, count: u64, others: &mut Unanswered) -> bool
         ensures left { self.new ≡ drop count self.old }
         ensures moved { length others.old + count < 2 ^ 64

@@ -29,7 +29,7 @@ impl Arrivals {
         Arrivals { returned: now }
     }
 
-    /// The poll was called and returned at these moments, in microseconds. Since when what it reports may have come: since it
+    /// Since when what the poll reports may have come, by the moments of its call and its return in microseconds: since it
     /// returned, if it waited; else since the one before did.
     pub fn polled(&mut self, called: u64, returned: u64) -> u64
         ensures earliest { result ≡ earliest self.old called returned }
