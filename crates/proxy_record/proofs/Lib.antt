@@ -1,1 +1,6 @@
 mod TextLemmas
+mod DecimalLemmas
+mod HexLemmas
+mod LineLemmas
+mod ReadBackLemmas
+mod ReadLemmas

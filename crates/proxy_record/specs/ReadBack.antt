@@ -1,5 +1,5 @@
 -- Texts that are read back.
-use Rattle.std.specs.Prelude.{◌≡◌, ℕ, zero, suc, true, List, [], ◌∷◌, ◌++◌, length, decimal, Option, Some, None, IfSome}
+use Rattle.std.specs.Prelude.{◌≡◌, ◌==◌, ◌||◌, ℕ, zero, suc, Bool, true, List, [], ◌∷◌, ◌++◌, length, decimal, Option, Some, None, IfSome}
 use Rattle.std.specs.Option.{option_map}
 use Rattle.std.specs.List.{list_all}
 use Rattle.resp_core.specs.Tree.{Tree, Trees, simple, fault, whole, bulk, null_bulk, list, null_list, no_trees, tree, is_text_byte, is_plain_tree, trees_of, members}
@@ -64,6 +64,10 @@ FindsBulk shown before after found =
 -- the same of a null behind its first line
 abbrev pub FindsNull : Tree → List ℕ → List ℕ → List ℕ → Option Tree → Type 0
 FindsNull null shown before after found = shown ≡ 45 ∷ 49 ∷ [] → (found ≡ Some null) × (after ≡ before)
+
+-- a CR or an LF
+abbrev pub is_end : ℕ → Bool
+is_end b = (b == 13) || (b == 10)
 
 -- the type and the bytes of a line were taken
 abbrev pub IsTaken : ℕ → List ℕ → Option (ℕ × List ℕ) → Type 0

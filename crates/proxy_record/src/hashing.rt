@@ -44,9 +44,10 @@ fn hmac_md5(key: &[u8; 16], message: &[u8]) -> [u8; 16]
 fn key_block(key: &[u8; 16], mask: u8) -> [u8; 64]
     ensures { result ≡ key_block key.now mask }
 {
-    let mut block = [mask; BLOCK_LEN];
-    for i in 0..KEY_LEN {
-        block[i] = key[i] ^ mask;
+    let mut block = [0u8; BLOCK_LEN];
+    block[..KEY_LEN].copy_from_slice(key);
+    for byte in block.iter_mut() {
+        *byte ^= mask;
     }
     block
 }

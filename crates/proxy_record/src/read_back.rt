@@ -1,15 +1,15 @@
 //! Texts that the proxy sent or handed out, read back.
 //!
 //! The reader of sockets has limits of length, and an answer may be longer.
-ghost use Rattle.std.specs.Prelude.{◌≡◌, ◌++◌, ◌+◌, ◌≤◌, ◌<◌, ◌↔◌, ℕ, ℤ, List, true, length, Some, IfOk, IfSome, IsTrue};
-ghost use Rattle.std.specs.List.{list_all};
+ghost use Rattle.std.specs.Prelude.{◌≡◌, ◌++◌, ◌+◌, ◌≤◌, ◌<◌, ◌^◌, ◌↔◌, ◌==◌, ◌∷◌, [], ℕ, ℤ, pos, neg_ℤ, List, true, slice_index, length, Some, IfOk, IfSome, IsTrue};
+ghost use Rattle.std.specs.List.{list_all, position};
 ghost use Rattle.std.specs.Fmt.{decimal, signed_decimal};
 ghost use Rattle.resp_core.specs.Tree.{is_plain_tree, is_text_byte};
 ghost use Rattle.resp_core.specs.Text.{line};
 ghost use Rattle.resp_core.specs.Text.{text as spelling};
 ghost use Rattle.resp_core.specs.Value.{tree_of};
 ghost use Rattle.resp_core.specs.ValueLimits.{IsLong};
-ghost use Rattle.proxy_record.specs.ReadBack.{Finds, FindsBulk, FindsList, FindsMembers, FindsNull, IsReadBack, IsTaken, found_in};
+ghost use Rattle.proxy_record.specs.ReadBack.{Finds, FindsBulk, FindsList, FindsMembers, FindsNull, IsReadBack, IsTaken, found_in, is_end};
 ghost use Rattle.resp_core.specs.Tree.{null_bulk, null_list, whole};
 
 use bytes::Bytes;
@@ -21,8 +21,6 @@ pub const MAX_NESTED: usize = 8;
 
 // What stands on the line of a null.
 const NULL: &[u8; 2] = b"-1";
-
-const LEAST: &[u8; 20] = b"-9223372036854775808";
 
 /// The value whose one spelling the text is. `None` where there is none; one may be left unfound only where its arrays
 /// nest deeper than 8, or an integer in it isn't of 64 bits. Refused only for want of memory.
@@ -60,6 +58,8 @@ fn spells(alloc: Global, value: &Value, bytes: &[u8]) -> Result<bool, AllocError
 fn read_value(alloc: Global, left: usize, rest: &mut Bytes) -> Result<Option<Value>, AllocError>
     ensures { IfOk result (λ found. Finds left rest.old rest.new (found_in found)) }
 {
+    // (it bounds the numbers on lines)
+    let _ = rest.len();
     let Some((kind, shown)) = take_line(rest)? else {
         return Ok(None);
     };
@@ -67,8 +67,8 @@ fn read_value(alloc: Global, left: usize, rest: &mut Bytes) -> Result<Option<Val
         b'+' => Ok(Some(Value::Simple(shown))),
         b'-' => Ok(Some(Value::Fault(shown))),
         b':' => Ok(whole_in(shown.as_slice())),
-        b'$' => read_bulk(shown.as_slice(), rest),
-        b'*' => read_list(alloc, left, shown.as_slice(), rest),
+        b'$' => Ok(read_bulk(shown.as_slice(), rest)?),
+        b'*' => Ok(read_list(alloc, left, shown.as_slice(), rest)?),
         _ => Ok(None),
     }
 }
@@ -85,13 +85,14 @@ fn read_list(
     ensures null { IfOk result
         (λ found. 0 < left → FindsNull null_list shown.now rest.old rest.new (found_in found)) }
 {
+    let most = rest.len();
     if left == 0 {
         return Ok(None);
     }
-    if shown == NULL.as_slice() {
+    if is_null(shown) {
         return Ok(Some(Value::NullList));
     }
-    let Some(count) = count_in(shown, rest.len()) else {
+    let Some(count) = count_in(shown, most) else {
         return Ok(None);
     };
     match read_members(alloc, left - 1, count, rest)? {
@@ -110,7 +111,7 @@ fn read_members(
     ensures { IfOk result (λ found. FindsMembers left count rest.old rest.new found) }
 {
     let mut values = Vec::new(alloc);
-    for _ in 0..count {
+    for _i in 0..count {
         match read_value(alloc, left, rest)? {
             Some(value) => values.push(value)?,
             None => return Ok(None),
@@ -119,18 +120,25 @@ fn read_members(
     Ok(Some(Values(values)))
 }
 
+fn is_null(shown: &[u8]) -> bool
+    ensures { IsTrue result ↔ (shown.now ≡ 45 ∷ 49 ∷ []) }
+{
+    shown == NULL.as_slice()
+}
+
 fn read_bulk(shown: &[u8], rest: &mut Bytes) -> Result<Option<Value>, AllocError>
     ensures bulk { IfOk result (λ found. FindsBulk shown.now rest.old rest.new (found_in found)) }
     ensures null { IfOk result
         (λ found. FindsNull null_bulk shown.now rest.old rest.new (found_in found)) }
 {
-    if shown == NULL.as_slice() {
+    let most = rest.len();
+    if is_null(shown) {
         return Ok(Some(Value::NullBulk));
     }
-    let Some(len) = count_in(shown, rest.len()) else {
+    let Some(len) = count_in(shown, most) else {
         return Ok(None);
     };
-    if rest.len() - len < 2 {
+    if most - len < 2 {
         return Ok(None);
     }
     let payload = rest.split_to(len)?;
@@ -159,24 +167,83 @@ fn line_len(bytes: &[u8]) -> Option<usize>
     ensures len { (kind : ℕ) (s behind : List ℕ) → list_all is_text_byte s ≡ true
         → bytes.now ≡ line kind s ++ behind → result ≡ Some (length s) }
 {
-    let (_, behind) = bytes.split_first()?;
-    let len = behind.iter().position(|b| *b == b'\r' || *b == b'\n')?;
-    if behind.len() - len < 2 { None } else { Some(len) }
+    let [_, behind @ ..] = bytes else {
+        return None;
+    };
+    match first_end(behind) {
+        Some(len) if behind.len() - len >= 2 => Some(len),
+        _ => None,
+    }
+}
+
+fn first_end(bytes: &[u8]) -> Option<usize>
+    ensures end { result ≡ position is_end bytes.now }
+    ensures inside { IfSome result (λ at. at < length bytes.now) }
+{
+    bytes.iter().position(|b| *b == b'\r' || *b == b'\n')
 }
 
 fn whole_in(shown: &[u8]) -> Option<Value>
     ensures { (n : ℤ) → IsLong n → shown.now ≡ signed_decimal n
         → found_in result ≡ Some (whole n) }
 {
-    if shown == LEAST.as_slice() {
-        return Some(Value::Whole(i64::MIN));
+    match signed_in(shown) {
+        Some(n) => Some(Value::Whole(n)),
+        None => None,
     }
-    let Ok(text) = str::from_utf8(shown) else {
+}
+
+fn signed_in(shown: &[u8]) -> Option<i64>
+    ensures { (n : ℤ) → IsLong n → shown.now ≡ signed_decimal n → result ≡ Some n }
+{
+    if is_negative(shown) {
+        negative_in(shown)
+    } else {
+        positive_in(shown)
+    }
+}
+
+fn is_negative(shown: &[u8]) -> bool
+    ensures { result ≡ (slice_index shown.now 0 == 45) }
+{
+    match shown {
+        [first, ..] => *first == b'-',
+        [] => false,
+    }
+}
+
+fn positive_in(digits: &[u8]) -> Option<i64>
+    ensures { (n : ℕ) → n < 2 ^ 63 → digits.now ≡ decimal n → result ≡ Some (pos n) }
+{
+    match number_in(digits) {
+        Some(n) if n < 1 << 63 => Some(n as i64),
+        _ => None,
+    }
+}
+
+fn negative_in(shown: &[u8]) -> Option<i64>
+    ensures { (n : ℕ) → n ≤ 2 ^ 63 → shown.now ≡ 45 ∷ decimal n
+        → result ≡ Some (neg_ℤ (pos n)) }
+{
+    let [_, digits @ ..] = shown else {
         return None;
     };
-    match text.parse::<i64>() {
-        Ok(n) => Some(Value::Whole(n)),
-        Err(_) => None,
+    match number_in(digits) {
+        Some(n) => negated(n),
+        None => None,
+    }
+}
+
+// `None` where it isn't of 64 bits.
+fn negated(n: u64) -> Option<i64>
+    ensures { n ≤ 2 ^ 63 → result ≡ Some (neg_ℤ (pos n)) }
+{
+    if n == 0 {
+        Some(0)
+    } else if n <= 1 << 63 {
+        Some(-((n - 1) as i64) - 1)
+    } else {
+        None
     }
 }
 
@@ -185,11 +252,17 @@ fn count_in(shown: &[u8], most: usize) -> Option<usize>
     ensures few { IfSome result (λ n. n ≤ most) }
     ensures count { (n : ℕ) → n ≤ most → shown.now ≡ decimal n → result ≡ Some n }
 {
-    let Ok(text) = str::from_utf8(shown) else {
-        return None;
-    };
-    match text.parse::<usize>() {
-        Ok(n) if n <= most => Some(n),
+    match number_in(shown) {
+        Some(n) if n <= most as u64 => Some(n as usize),
         _ => None,
+    }
+}
+
+fn number_in(digits: &[u8]) -> Option<u64>
+    ensures { (n : ℕ) → n < 2 ^ 64 → digits.now ≡ decimal n → result ≡ Some n }
+{
+    match str::from_utf8(digits) {
+        Ok(text) => text.parse::<u64>().ok(),
+        Err(_) => None,
     }
 }

@@ -83,15 +83,15 @@ fn push_points_of(parts: &PartPlans, tags: bool, line: &mut Vec<u8>) -> Result<(
     ensures { OnOk result (line.new.items
         ≡ line.old.items ++ points_of_parts tags parts.now) }
 {
-    let mut before = ", \"points\": [";
-    for part in &parts.0 {
-        let point = point_of_key(part.key.as_slice(), tags);
-        push_piece(line, before)?;
-        push_piece(line, Buffer::new().format(point))?;
-        before = ", ";
-    }
     if parts.0.is_empty() {
         return Ok(());
+    }
+    let mut before = b", \"points\": [".as_slice();
+    for part in &parts.0 {
+        let point = point_of_key(part.key.as_slice(), tags);
+        line.extend_from_slice(before)?;
+        push_piece(line, Buffer::new().format(point))?;
+        before = b", ".as_slice();
     }
     push_piece(line, "]")
 }

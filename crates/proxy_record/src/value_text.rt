@@ -56,11 +56,11 @@ fn push_members(
     ensures { OnOk result (line.new.items
         ≡ line.old.items ++ members_text payloads.now [] (trees_of values.now)) }
 {
-    let mut before = "";
+    let mut before = b"".as_slice();
     for value in &values.0 {
-        push_piece(line, before)?;
+        line.extend_from_slice(before)?;
         push_value(value, payloads, false, line)?;
-        before = ", ";
+        before = b", ".as_slice();
     }
     Ok(())
 }
