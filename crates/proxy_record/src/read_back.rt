@@ -31,7 +31,8 @@ pub(crate) fn read_back(alloc: Global, text: &Bytes) -> Result<Option<Value>, Al
     let Some(value) = read_value(alloc, MAX_NESTED, &mut rest)? else {
         return Ok(None);
     };
-    if spells(alloc, &value, text.as_slice())? {
+    let is_spelled = spells(alloc, &value, text.as_slice())?;
+    if is_spelled {
         Ok(Some(value))
     } else {
         Ok(None)
