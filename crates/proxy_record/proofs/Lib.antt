@@ -1,4 +1,5 @@
 mod TextLemmas
+mod CommandLemmas
 mod DecimalLemmas
 mod HexLemmas
 mod LineLemmas

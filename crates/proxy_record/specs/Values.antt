@@ -1,5 +1,5 @@
 -- Values and words, as a line has them.
-use Rattle.std.specs.Prelude.{ℕ, ℤ, Bool, false, ◌||◌, List, [], ◌∷◌, ◌++◌, codes, nat_eq, bytes_eq, if◌then◌else◌}
+use Rattle.std.specs.Prelude.{ℕ, Bool, false, ◌||◌, List, [], ◌∷◌, ◌++◌, codes, nat_eq, bytes_eq, if◌then◌else◌}
 use Rattle.std.specs.List.{starts_with}
 use Rattle.std.specs.Fmt.{signed_decimal}
 use Rattle.resp_core.specs.Tree.{Tree, Trees, simple, fault, whole, bulk, null_bulk, list, null_list, no_trees, tree}
@@ -38,16 +38,16 @@ abbrev pub digits_text : Payloads → Bool → List ℕ → List ℕ
 digits_text Clear is_sum digits = digits
 digits_text (Hashed key tags) is_sum digits = if is_sum then digits else leaf (Hashed key tags) digits
 
--- an integer
-abbrev pub whole_text : Payloads → Bool → ℤ → List ℕ
-whole_text payloads is_sum n = codes "[\":\", \"" ++ digits_text payloads is_sum (signed_decimal n) ++ codes "\"]"
+-- an integer, by its digits
+abbrev pub whole_text : Payloads → Bool → List ℕ → List ℕ
+whole_text payloads is_sum digits = codes "[\":\", \"" ++ digits_text payloads is_sum digits ++ codes "\"]"
 
 -- a value, and the members of an array
 abbrev mutual
   pub value_text : Payloads → Bool → Tree → List ℕ
   value_text payloads is_sum (simple s) = quoted_own (codes "[\"+\", \"") payloads s
   value_text payloads is_sum (fault s) = quoted_own (codes "[\"-\", \"") payloads s
-  value_text payloads is_sum (whole n) = whole_text payloads is_sum n
+  value_text payloads is_sum (whole n) = whole_text payloads is_sum (signed_decimal n)
   value_text payloads is_sum (bulk s) = bulk_text payloads s
   value_text payloads is_sum null_bulk = codes "[\"$\"]"
   value_text payloads is_sum (list ts) = codes "[\"*\", [" ++ members_text payloads [] ts ++ codes "]]"

@@ -3,7 +3,7 @@ ghost use Rattle.std.specs.Prelude.{◌≡◌, ◌++◌, OnOk, [], true, map};
 ghost use Rattle.resp_core.specs.Tree.{trees_of};
 ghost use Rattle.resp_core.specs.Value.{tree_of};
 ghost use Rattle.resp_core.specs.Command.{are_words, payload_of};
-ghost use Rattle.proxy_record.specs.Values.{bulk_text, is_own, is_own_by_beginning, is_own_text, list_text, members_text, quoted_own, value_text, whole_text, words_text};
+ghost use Rattle.proxy_record.specs.Values.{bulk_text, digits_text, is_own, is_own_by_beginning, is_own_text, list_text, members_text, quoted_own, value_text, whole_text, words_text};
 
 use crate::payloads::Payloads;
 use crate::pieces::push_piece;
@@ -25,7 +25,7 @@ pub(crate) fn push_value(
     match value {
         Value::Simple(text) => push_own("[\"+\", \"", text.as_slice(), payloads, line),
         Value::Fault(text) => push_own("[\"-\", \"", text.as_slice(), payloads, line),
-        Value::Whole(n) => push_whole(*n, payloads, is_sum, line),
+        Value::Whole(n) => push_whole(Buffer::new().format(*n), payloads, is_sum, line),
         Value::Bulk(payload) => push_bulk(payload.as_slice(), payloads, line),
         Value::NullBulk => push_piece(line, "[\"$\"]"),
         Value::List(values) => push_list(values, payloads, line),
@@ -89,22 +89,38 @@ fn push_bulk(bytes: &[u8], payloads: &Payloads, line: &mut Vec<u8>) -> Result<()
 }
 
 fn push_whole(
-    n: i64,
+    digits: &str,
     payloads: &Payloads,
     is_sum: bool,
     line: &mut Vec<u8>,
 ) -> Result<(), AllocError>
     ensures { OnOk result (line.new.items
-        ≡ line.old.items ++ whole_text payloads.now is_sum n) }
+        ≡ line.old.items ++ whole_text payloads.now is_sum digits.now) }
 {
-    let mut buffer = Buffer::new();
-    let digits = buffer.format(n);
     push_piece(line, "[\":\", \"")?;
-    match payloads {
-        Payloads::Hashed { .. } if !is_sum => payloads.push_leaf(digits.as_bytes(), line)?,
-        _ => push_piece(line, digits)?,
-    }
+    push_digits(digits, payloads, is_sum, line)?;
     push_piece(line, "\"]")
+}
+
+fn push_digits(
+    digits: &str,
+    payloads: &Payloads,
+    is_sum: bool,
+    line: &mut Vec<u8>,
+) -> Result<(), AllocError>
+    ensures { OnOk result (line.new.items
+        ≡ line.old.items ++ digits_text payloads.now is_sum digits.now) }
+{
+    match payloads {
+        Payloads::Clear => push_piece(line, digits),
+        Payloads::Hashed { .. } => {
+            if is_sum {
+                push_piece(line, digits)
+            } else {
+                payloads.push_leaf(digits.as_bytes(), line)
+            }
+        }
+    }
 }
 
 // Whether a simple string or an error stands in the clear.
