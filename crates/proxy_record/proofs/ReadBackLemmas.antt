@@ -1,12 +1,8 @@
 -- The text of a value behind its first line, and what that line tells.
-use Rattle.std.proofs.Common.{◌≡◌, ◌≢◌, ◌<◌, ◌≤◌, ◌^◌, ◌+◌, ℕ, zero, suc, ℤ, pos, negsuc, Bool, true, false, not, List, [], ◌∷◌, ◌++◌, length, Option, Some, None, decimal, refl, sym, ap, subst, ◌∙◌, arith, append_assoc, cond}
-use Rattle.std.specs.Prelude.{◌||◌, ◌==◌}
-use Rattle.std.specs.List.{list_all, position, prefix_len, position_or_len}
+use Rattle.std.proofs.Common.{◌≡◌, ℕ, zero, suc, true, List, [], ◌∷◌, ◌++◌, length, decimal, refl}
 use Rattle.std.specs.Fmt.{signed_decimal}
-use Rattle.std.proofs.lemmas.Bool.{and_parts}
-use Rattle.std.proofs.lemmas.List.{length-append}
-use Rattle.resp_core.specs.Tree.{Tree, Trees, simple, fault, whole, bulk, null_bulk, list, null_list, no_trees, tree, members, is_text_byte, is_plain_tree, are_plain_trees}
-use Rattle.resp_core.specs.Text.{line, line_end, text, texts}
+use Rattle.resp_core.specs.Tree.{Tree, Trees, simple, fault, whole, bulk, null_bulk, list, null_list, no_trees, tree, members, is_plain_tree, are_plain_trees}
+use Rattle.resp_core.specs.Text.{line_end, texts}
 use Rattle.proxy_record.specs.ReadBack.{IsShowable, AreShowable}
 
 -- the type byte of a value

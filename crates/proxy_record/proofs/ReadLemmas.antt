@@ -1,6 +1,6 @@
 -- What a value's first line tells, and what stands behind it.
-use Rattle.std.proofs.Common.{◌≡◌, ◌<◌, ◌≤◌, ◌^◌, ◌+◌, ◌-◌, ℕ, zero, suc, ℤ, pos, negsuc, true, false, List, [], ◌∷◌, ◌++◌, length, map, Option, Some, None, decimal, refl, sym, ap, subst, ◌∙◌, arith, append_assoc}
-use Rattle.std.specs.Prelude.{not, ◌==◌}
+use Rattle.std.proofs.Common.{◌≡◌, ◌<◌, ◌≤◌, ◌^◌, ◌+◌, ◌-◌, ℕ, zero, suc, ℤ, pos, negsuc, true, false, List, [], ◌∷◌, ◌++◌, length, Option, Some, None, decimal, refl, sym, ap, subst, ◌∙◌, arith, append_assoc}
+use Rattle.std.specs.Prelude.{◌==◌}
 use Rattle.std.specs.List.{list_all}
 use Rattle.std.specs.Fmt.{signed_decimal}
 use Rattle.std.specs.Str.Parse.{AllDigits}
@@ -250,7 +250,7 @@ pub other_found : (bytes rest after : List ℕ) (found : Option Tree) (v : Tree)
 other_found bytes rest after found v finds same have other = record {
   spells = tt;
   finds = λ t h is.
-  let both : Some v ≡ Some t = sym have ∙ read_whole bytes rest after found finds same t h is in
-  let it : t ≡ v = cc in
-  absurd (other (ap is_plain_tree (sym it) ∙ plain_showable 8 t h, is ∙ ap text it));
+      let both : Some v ≡ Some t = sym have ∙ read_whole bytes rest after found finds same t h is in
+      let it : t ≡ v = cc in
+      absurd (other (ap is_plain_tree (sym it) ∙ plain_showable 8 t h, is ∙ ap text it));
 }

@@ -1,5 +1,5 @@
 -- The lines of a record.
-use Rattle.std.specs.Prelude.{◌≡◌, ℕ, List, [], ◌∷◌, ◌++◌, codes, decimal, Option, Some, None}
+use Rattle.std.specs.Prelude.{◌≡◌, ℕ, List, [], ◌∷◌, ◌++◌, codes, decimal, Option}
 use Rattle.std.specs.List.{concat}
 use Rattle.resp_core.specs.Tree.{Tree}
 use Rattle.journal_core.specs.declared.step.Step.{Step}

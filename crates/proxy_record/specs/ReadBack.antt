@@ -2,7 +2,7 @@
 use Rattle.std.specs.Prelude.{◌≡◌, ◌==◌, ◌||◌, ℕ, zero, suc, Bool, true, List, [], ◌∷◌, ◌++◌, length, decimal, Option, Some, None, IfSome}
 use Rattle.std.specs.Option.{option_map}
 use Rattle.std.specs.List.{list_all}
-use Rattle.resp_core.specs.Tree.{Tree, Trees, simple, fault, whole, bulk, null_bulk, list, null_list, no_trees, tree, is_text_byte, is_plain_tree, trees_of, members}
+use Rattle.resp_core.specs.Tree.{Tree, Trees, simple, fault, whole, bulk, null_bulk, list, null_list, no_trees, tree, is_text_byte, is_plain_tree, members}
 use Rattle.resp_core.specs.Text.{text, texts, line_end}
 use Rattle.resp_core.specs.ValueLimits.{IsLong}
 use Rattle.resp_core.specs.Value.{tree_of}

@@ -114,12 +114,7 @@ fn push_trip(line: &mut Vec<u8>, trip: Trip) -> Result<(), AllocError>
     push_all(line, &["\"trip\": \"", trip_name(trip), "\""])
 }
 
-fn push_swept(
-    line: &mut Vec<u8>,
-    returned: u32,
-    ejected: u32,
-    kept: u32,
-) -> Result<(), AllocError>
+fn push_swept(line: &mut Vec<u8>, returned: u32, ejected: u32, kept: u32) -> Result<(), AllocError>
     ensures { OnOk result (line.new.items ≡ line.old.items ++ swept_text returned ejected kept) }
 {
     let (mut back, mut out, mut stayed) = (Buffer::new(), Buffer::new(), Buffer::new());

@@ -6,12 +6,7 @@ use itoa::Buffer;
 use std::alloc::{AllocError, Global};
 
 /// Appends the last line of a record. Refused only for want of memory: nothing is appended.
-pub fn put_end(
-    alloc: Global,
-    steps: u64,
-    bytes: u64,
-    out: &mut Vec<u8>,
-) -> Result<(), AllocError>
+pub fn put_end(alloc: Global, steps: u64, bytes: u64, out: &mut Vec<u8>) -> Result<(), AllocError>
     ensures ok { OnOk result (out.new.items ≡ out.old.items ++ end_text steps bytes) }
     ensures err { OnErr result (out.new.items ≡ out.old.items) }
 {

@@ -17,11 +17,7 @@ const INNER: u8 = 0x36;
 const OUTER: u8 = 0x5C;
 
 /// Appends the length of the bytes, a colon, and the digits of their hash.
-pub(crate) fn push_hash(
-    key: &[u8; 16],
-    bytes: &[u8],
-    line: &mut Vec<u8>,
-) -> Result<(), AllocError>
+pub(crate) fn push_hash(key: &[u8; 16], bytes: &[u8], line: &mut Vec<u8>) -> Result<(), AllocError>
     ensures { OnOk result (line.new.items ≡ line.old.items ++ hashed key.now bytes.now) }
 {
     push_all(line, &[Buffer::new().format(bytes.len()), ":"])?;

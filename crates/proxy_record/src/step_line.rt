@@ -66,7 +66,13 @@ fn push_head(line: &mut Vec<u8>, beside: Beside, pass: u64) -> Result<(), AllocE
         ≡ line.old.items ++ head_text beside.number beside.at pass) }
 {
     let mut digits = Buffer::new();
-    push_all(line, &["{\"n\": ", digits.format(beside.number), ", \"at\": "])?;
+    push_all(
+        line,
+        &["{\"n\": ", digits.format(beside.number), ", \"at\": "],
+    )?;
     push_moment(line, beside.at)?;
-    push_all(line, &[", \"pass\": ", Buffer::new().format(pass), ", \"event\": "])
+    push_all(
+        line,
+        &[", \"pass\": ", Buffer::new().format(pass), ", \"event\": "],
+    )
 }

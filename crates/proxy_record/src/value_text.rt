@@ -34,11 +34,7 @@ pub(crate) fn push_value(
 }
 
 #[cycle(value)]
-fn push_list(
-    values: &Values,
-    payloads: &Payloads,
-    line: &mut Vec<u8>,
-) -> Result<(), AllocError>
+fn push_list(values: &Values, payloads: &Payloads, line: &mut Vec<u8>) -> Result<(), AllocError>
     ensures { OnOk result (line.new.items
         ≡ line.old.items ++ list_text payloads.now (trees_of values.now)) }
 {
@@ -48,11 +44,7 @@ fn push_list(
 }
 
 #[cycle(value)]
-fn push_members(
-    values: &Values,
-    payloads: &Payloads,
-    line: &mut Vec<u8>,
-) -> Result<(), AllocError>
+fn push_members(values: &Values, payloads: &Payloads, line: &mut Vec<u8>) -> Result<(), AllocError>
     ensures { OnOk result (line.new.items
         ≡ line.old.items ++ members_text payloads.now [] (trees_of values.now)) }
 {

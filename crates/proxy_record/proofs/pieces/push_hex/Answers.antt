@@ -1,6 +1,5 @@
-use Rattle.std.proofs.Common.{◌≡◌, ◌++◌, sym, ap, ◌∙◌, arith}
+use Rattle.std.proofs.Common.{◌++◌, sym, ap, ◌∙◌, arith}
 use Rattle.std.proofs.lemmas.List.{append-nil}
-use Rattle.proxy_record.specs.Leaves.{hex}
 use Rattle.proxy_record.proofs.HexLemmas.{hex_more, hex_none, two_bytes}
 use Rattle.proxy_record.proofs.pieces.push_hex.Goals as goal
 

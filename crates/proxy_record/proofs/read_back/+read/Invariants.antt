@@ -1,4 +1,4 @@
-use Rattle.std.proofs.Common.{◌≡◌, ℕ, ◌+◌, ◌-◌, ◌*◌, ◌++◌, List, length, map}
+use Rattle.std.proofs.Common.{◌≡◌, ℕ, ◌+◌, ◌*◌, ◌++◌, List, length, map}
 use Rattle.resp_core.specs.Tree.{Trees, members}
 use Rattle.resp_core.specs.Text.{texts}
 use Rattle.resp_core.specs.Value.{tree_of}

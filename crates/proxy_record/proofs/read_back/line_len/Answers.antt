@@ -1,4 +1,4 @@
-use Rattle.std.proofs.Common.{◌≡◌, length, drop, Some, ◌∙◌, arith}
+use Rattle.std.proofs.Common.{◌≡◌, length, Some, ◌∙◌, arith}
 use Rattle.std.proofs.lemmas.List.{length-drop}
 use Rattle.proxy_record.proofs.LineLemmas.{line_behind}
 use Rattle.proxy_record.proofs.read_back.line_len.Goals as goal

@@ -1,4 +1,4 @@
-use Rattle.std.proofs.Common.{◌≡◌, ◌∷◌, pos, neg_ℤ, Some, None, length, decimal, ap, ◌∙◌, arith}
+use Rattle.std.proofs.Common.{◌≡◌, pos, neg_ℤ, Some, None, length, decimal, ap, ◌∙◌, arith}
 use Rattle.proxy_record.proofs.DecimalLemmas.{behind_minus}
 use Rattle.proxy_record.proofs.read_back.negative_in.Goals as goal
 
