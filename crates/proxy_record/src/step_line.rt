@@ -1,6 +1,5 @@
 ghost use Rattle.std.specs.Prelude.{◌≡◌, ◌++◌, OnOk, OnErr};
-ghost use Rattle.proxy_record.specs.Lines.{head_text, step_text, IsStepLine};
-ghost use Rattle.proxy_record.specs.ReadBack.{found_in};
+ghost use Rattle.proxy_record.specs.Lines.{head_text, IsStepLine};
 
 use crate::answer_text::{push_answer, value_in};
 use crate::event_text::push_event;
@@ -9,7 +8,6 @@ use crate::pieces::{push_all, push_moment, push_piece};
 use itoa::Buffer;
 use journal_core::Step;
 use proxy_history::{Answer, Event};
-use resp_core::Value;
 use std::alloc::{AllocError, Global};
 
 /// What a step's line tells beside the step.
@@ -37,27 +35,33 @@ pub fn put_step(
     ensures ok { OnOk result (IsStepLine payloads.now beside step.now out.old.items out.new.items) }
     ensures err { OnErr result (out.new.items ≡ out.old.items) }
 {
-    let found = value_in(alloc, &step.answer)?;
     let mut line = Vec::new(alloc);
-    push_step(alloc, step, &found, payloads, beside, &mut line)?;
+    push_step(alloc, step, payloads, beside, &mut line)?;
+    append(out, &line)
+}
+
+fn append(out: &mut Vec<u8>, line: &Vec<u8>) -> Result<(), AllocError>
+    ensures ok { OnOk result (out.new.items ≡ out.old.items ++ line.now.items) }
+    ensures err { OnErr result (out.new.items ≡ out.old.items) }
+{
     out.extend_from_slice(line.as_slice())
 }
 
 fn push_step(
     alloc: Global,
     step: &Step<Event, Answer>,
-    found: &Option<Value>,
     payloads: &Payloads,
     beside: Beside,
     line: &mut Vec<u8>,
 ) -> Result<(), AllocError>
-    ensures { OnOk result (line.new.items
-        ≡ line.old.items ++ step_text payloads.now beside step.now (found_in found.now)) }
+    ensures { OnOk result
+        (IsStepLine payloads.now beside step.now line.old.items line.new.items) }
 {
+    let found = value_in(alloc, &step.answer)?;
     push_head(line, beside, step.pass)?;
     push_event(alloc, &step.event, payloads, beside, line)?;
     push_piece(line, ", \"answer\": {")?;
-    push_answer(&step.answer, found, payloads, beside.is_sum, line)?;
+    push_answer(&step.answer, &found, payloads, beside.is_sum, line)?;
     push_piece(line, "}}\n")
 }
 
