@@ -7,4 +7,5 @@ pub mod Requests
 pub mod ReadBack
 pub mod Events
 pub mod Answers
+pub mod CarriedLine
 pub mod Lines

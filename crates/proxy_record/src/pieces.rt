@@ -1,5 +1,5 @@
 //! Pieces of a line.
-ghost use Rattle.std.specs.Prelude.{◌≡◌, ◌++◌, OnOk, map};
+ghost use Rattle.std.specs.Prelude.{◌≡◌, ◌++◌, OnOk, OnErr, map};
 ghost use Rattle.std.specs.List.{concat};
 ghost use Rattle.proxy_record.specs.Leaves.{hex};
 ghost use Rattle.proxy_record.specs.Moments.{moment};
@@ -8,6 +8,14 @@ use itoa::Buffer;
 use std::alloc::AllocError;
 
 const DIGITS: &[u8; 16] = b"0123456789abcdef";
+
+/// Appends a whole line, or nothing.
+pub(crate) fn append(out: &mut Vec<u8>, line: &Vec<u8>) -> Result<(), AllocError>
+    ensures ok { OnOk result (out.new.items ≡ out.old.items ++ line.now.items) }
+    ensures err { OnErr result (out.new.items ≡ out.old.items) }
+{
+    out.extend_from_slice(line.as_slice())
+}
 
 /// Appends these pieces.
 pub(crate) fn push_all(line: &mut Vec<u8>, pieces: &[&str]) -> Result<(), AllocError>

@@ -4,7 +4,7 @@ ghost use Rattle.proxy_record.specs.Lines.{head_text, IsStepLine};
 use crate::answer_text::{push_answer, value_in};
 use crate::event_text::push_event;
 use crate::payloads::Payloads;
-use crate::pieces::{push_all, push_moment, push_piece};
+use crate::pieces::{append, push_all, push_moment, push_piece};
 use itoa::Buffer;
 use journal_core::Step;
 use proxy_history::{Answer, Event};
@@ -38,13 +38,6 @@ pub fn put_step(
     let mut line = Vec::new(alloc);
     push_step(alloc, step, payloads, beside, &mut line)?;
     append(out, &line)
-}
-
-fn append(out: &mut Vec<u8>, line: &Vec<u8>) -> Result<(), AllocError>
-    ensures ok { OnOk result (out.new.items ≡ out.old.items ++ line.now.items) }
-    ensures err { OnErr result (out.new.items ≡ out.old.items) }
-{
-    out.extend_from_slice(line.as_slice())
 }
 
 fn push_step(
