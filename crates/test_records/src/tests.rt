@@ -2,7 +2,8 @@ use crate::play::{Played, record_of};
 use std::test::Fail;
 
 // The lines of `tools/audit/RECORD.md`'s example, without those of links and the first one. No socket is told.
-const EXAMPLE: &str = r#"{"n": 0, "at": 1000, "pass": 0, "event": "Opened", "socket": null, "answer": {"conn": 0}}
+const EXAMPLE: &str =
+    r#"{"n": 0, "at": 1000, "pass": 0, "event": "Opened", "socket": null, "answer": {"conn": 0}}
 {"n": 1, "at": 1002, "pass": 0, "event": "Arrived", "conn": 0, "words": ["474554", "636f6c6f7572"], "answer": {"index": 0, "local": null, "parts": 1, "no_host": 0, "busy": 0}}
 {"n": 2, "at": 1002, "pass": 0, "event": "Arrived", "conn": 0, "words": ["474554", "687565"], "answer": {"index": 1, "local": null, "parts": 1, "no_host": 0, "busy": 0}}
 {"n": 3, "at": 1002, "pass": 0, "event": "Taken", "host": 0, "answer": {"epoch": 0, "place": 0, "words": ["474554", "636f6c6f7572"]}}
@@ -16,7 +17,8 @@ const EXAMPLE: &str = r#"{"n": 0, "at": 1000, "pass": 0, "event": "Opened", "soc
 {"end": {"steps": 11, "bytes": 130}}
 "#;
 
-const SCRIPT: &str = "clear 0 10000 30000 300000 10 5 5 100 1900 50 127.0.0.1:7001=1 127.0.0.1:7002=1
+const SCRIPT: &str =
+    "clear 0 10000 30000 300000 10 5 5 100 1900 50 127.0.0.1:7001=1 127.0.0.1:7002=1
 0 1000 0 Opened
 0 1002 0 Arrived 0 2a320d0a24330d0a4745540d0a24360d0a636f6c6f75720d0a
 0 1002 0 Arrived 0 2a320d0a24330d0a4745540d0a24330d0a6875650d0a
@@ -68,7 +70,15 @@ fn a_refused_line_leaves_the_buffer(rt: HostRuntime) -> Result<(), Fail> {
 #[test]
 fn replies_are_read_back(rt: HostRuntime) -> Result<(), Fail> {
     let record = record_of(rt.alloc(), LEAST)?;
-    assert!(rt; record.as_str().contains(r#""value": [":", "-9223372036854775808"]}}"#));
-    assert!(rt; record.as_str().contains(r#"{"value": ["*", [["*", []], ["$"], ["*"]]]}}"#));
+    assert!(rt;
+        record
+            .as_str()
+            .contains(r#""value": [":", "-9223372036854775808"]}}"#)
+    );
+    assert!(rt;
+        record
+            .as_str()
+            .contains(r#"{"value": ["*", [["*", []], ["$"], ["*"]]]}}"#)
+    );
     Ok(())
 }
