@@ -1,0 +1,7 @@
+mod TextLemmas
+mod CommandLemmas
+mod DecimalLemmas
+mod HexLemmas
+mod LineLemmas
+mod ReadBackLemmas
+mod ReadLemmas

@@ -1,0 +1,11 @@
+pub mod Hashing
+pub mod Leaves
+pub mod Moments
+pub mod Names
+pub mod Values
+pub mod Requests
+pub mod ReadBack
+pub mod Events
+pub mod Answers
+pub mod CarriedLine
+pub mod Lines
