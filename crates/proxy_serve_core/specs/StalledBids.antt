@@ -17,17 +17,17 @@ is_standing_beside bidder now bid = stands now bid && not (bid.bidder == bidder)
 abbrev pub standing_beside : ℕ → ℕ → List StalledBid → List StalledBid
 standing_beside bidder now bids = filter (is_standing_beside bidder now) bids
 
--- a bid of this bidder for some bytes that stands
-abbrev pub is_standing_of : ℕ → ℕ → StalledBid → Bool
-is_standing_of bidder now bid = bid.bidder == bidder && nat_lt 0 bid.bytes && stands now bid
+-- a bid for some bytes that stands
+abbrev pub is_standing_for : ℕ → StalledBid → Bool
+is_standing_for now bid = nat_lt 0 bid.bytes && stands now bid
 
--- since when the bidder bids: since its bid that stands was made first; since now, if none stands
-abbrev pub since_of : ℕ → ℕ → List StalledBid → ℕ
-since_of bidder now bids = unwrap_or (option_map (λ bid. bid.since) (slice_get (filter (is_standing_of bidder now) bids) 0)) now
+-- since when bids have stood without a break, whoever made them: since then a bid that stands was made; since now, if none stands
+abbrev pub since_of : ℕ → List StalledBid → ℕ
+since_of now bids = unwrap_or (option_map (λ bid. bid.since) (slice_get (filter (is_standing_for now) bids) 0)) now
 
 -- the bid that a bidder makes
 abbrev pub own_bid : ℕ → ℕ → ℕ → List StalledBid → StalledBid
-own_bid bidder bytes now bids = record { bidder = bidder; bytes = bytes; since = since_of bidder now bids; at = now }
+own_bid bidder bytes now bids = record { bidder = bidder; bytes = bytes; since = since_of now bids; at = now }
 
 -- the bids that stand once it is made
 abbrev pub with_bid : ℕ → ℕ → ℕ → List StalledBid → List StalledBid
@@ -37,7 +37,8 @@ with_bid bidder bytes now bids = standing_beside bidder now bids ++ own_bid bidd
 abbrev pub IsAtMost : ℕ → StalledBid → Type 0
 IsAtMost bytes bid = bid.bytes ≤ bytes
 
--- A bid of some bytes has stood for as long as each worker needs to look at its clients, and none of those that stand is greater.
+-- A bid of some bytes wins once bids have stood for as long as each worker needs to look at its clients, and none of those that stand
+-- is greater.
 pub record Wins (now : ℕ) (own : StalledBid) (bids : List StalledBid) : Type 0 where
   pub some : 0 < own.bytes
   pub heard : own.since + BID_WAITS_MS ≤ now

@@ -8,7 +8,7 @@ use std::marker::Model;
 /// A bid stands for so many milliseconds, unless it is made again.
 pub const BID_STANDS_MS: u64 = 400;
 
-/// A bid wins once it has stood for so many milliseconds, in which each worker has looked at its clients.
+/// A bid wins once bids have stood for so many milliseconds, in which each worker has looked at its clients.
 pub const BID_WAITS_MS: u64 = 200;
 
 /// A worker's stalled client for which most bytes wait, told to the others.
@@ -18,7 +18,7 @@ pub struct StalledBid {
     pub bidder: u64,
     /// The bytes that wait for its client.
     pub bytes: u64,
-    /// When it was made first, in milliseconds.
+    /// Since when bids have stood without a break, in milliseconds.
     pub since: u64,
     /// When it was made last, in milliseconds.
     pub at: u64,
@@ -67,7 +67,7 @@ impl StalledBids {
         let own = StalledBid {
             bidder,
             bytes,
-            since: since_of(&self.bids, bidder, now),
+            since: since_of(&self.bids, now),
             at: now,
         };
         keep_standing(&mut self.bids, bidder, now);
@@ -90,12 +90,12 @@ fn keep_standing(bids: &mut Vec<StalledBid>, bidder: u64, now: u64)
     bids.retain(|bid| bid.stands(now) && bid.bidder != bidder);
 }
 
-// Since when the bidder's bid stands; now, if none does.
-fn since_of(bids: &[StalledBid], bidder: u64, now: u64) -> u64
-    ensures { result ≡ since_of bidder now bids.now }
+// A client may go from worker to worker while its generations change, so it isn't asked whose bid stands. Now, if none does.
+fn since_of(bids: &[StalledBid], now: u64) -> u64
+    ensures { result ≡ since_of now bids.now }
 {
     for bid in bids {
-        if bid.bidder == bidder && bid.bytes > 0 && bid.stands(now) {
+        if bid.bytes > 0 && bid.stands(now) {
             return bid.since;
         }
     }
