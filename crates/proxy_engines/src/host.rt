@@ -492,6 +492,8 @@ impl<R: ReadTally + Drop, W: WriteTally + Drop> HostEngine<R, W> {
     /// Makes the part of a [`step`](HostEngine::step) that reads, at this moment in milliseconds, and sends nothing; or a
     /// whole one where an earlier fault is to be recorded. `Idle`: the reader paused, or there is no link. So all replies
     /// of one read can be made in one stay inside a gate.
+    ///
+    /// Faults come as there, and so do the refusals 1401, 1402 and 1404. 1403 comes of a whole step alone.
     pub fn receive<Rt: Wait, T: CoreTurns>(
         &mut self,
         rt: &Rt,

@@ -21,7 +21,7 @@ standing_beside bidder now bids = filter (is_standing_beside bidder now) bids
 abbrev pub is_standing_for : ℕ → StalledBid → Bool
 is_standing_for now bid = nat_lt 0 bid.bytes && stands now bid
 
--- since when bids have stood without a break, whoever made them: since then a bid that stands was made; since now, if none stands
+-- since when bids have stood without a break, whoever made them, as the first that stands tells; since now, if none stands
 abbrev pub since_of : ℕ → List StalledBid → ℕ
 since_of now bids = unwrap_or (option_map (λ bid. bid.since) (slice_get (filter (is_standing_for now) bids) 0)) now
 
